@@ -1,0 +1,6 @@
+pub mod Words
+pub mod Incidence
+pub mod Table
+pub mod Walk
+pub mod Loops
+pub mod IncidenceTable

@@ -1,0 +1,16 @@
+pub mod Lists
+pub mod Drawing
+pub mod Graph
+pub mod Analysis
+pub mod Maps
+pub mod Fold
+pub mod Refusals
+pub mod Evaluation
+pub mod Calls
+pub mod Chars
+pub mod Text
+pub mod Program
+pub mod Promises
+pub mod Worked
+pub mod Inner
+pub mod Facts
