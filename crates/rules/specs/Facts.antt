@@ -29,3 +29,5 @@ pub mod Standing
 pub mod Incident
 pub mod WalkTells
 pub mod Worked
+pub mod Refusing
+pub mod Acyclic

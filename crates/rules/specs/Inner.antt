@@ -4,3 +4,5 @@ pub mod Table
 pub mod Walk
 pub mod Loops
 pub mod IncidenceTable
+pub mod Checks
+pub mod Acyclic

@@ -8,11 +8,11 @@ use native.Mathlib.Decide.{decLt}
 use lib.ListN.{length, getD, take, drop, length-drop, length-append, length-replicate, replicate, getD-replicate, List·getD-append, drop-of-length-le}
 use lib.Seq.{drop-at, drop-drop, length-take-le}
 use borrow.Author.Tests.{lt-ltb, le-ltb}
-use Rattle.rules.specs.Drawing.{Drawing, Accepted, part, targetsOf, nodeCount, opCount}
+use Rattle.rules.specs.Drawing.{Drawing, Accepted, part, targetsOf, nodeCount, opCount, mostItems}
 use Rattle.rules.specs.Lists.{_∈_, sum, seg}
 use Rattle.rules.specs.Inner.Incidence.{items, incidence}
 use Rattle.rules.specs.Inner.IncidenceTable.{Offsets, Incident, tableLength}
-use Rattle.rules.specs.Inner.Loops.{Counted, Running, Placing, Cursors}
+use Rattle.rules.specs.Inner.Loops.{Counted, Running, Placing, Cursors, Listed}
 use Rattle.rules.specs.Inner.Table.{successors}
 use Rattle.rules.specs.Inner.Words.{count, below, filled, owners}
 use Rattle.rules.specs.Facts.Converse.{listing-converse}
@@ -22,6 +22,16 @@ use Rattle.rules.specs.Facts.Member.{part-inside}
 use Rattle.rules.specs.Facts.Placing.{sum-take, sum-all, below-le, below-next, below-zero, owners-length, all-starts, all-lists}
 use Rattle.rules.specs.Facts.Segments.{seg-same, back, back-length, back-before, back-in}
 use Rattle.rules.specs.Facts.Tables.{row, tails}
+
+-- an accepted drawing's sources are few enough to count
+pub sources-listed : (d : Drawing) (first : ℕ) → Accepted d → first ≤ mostItems → Listed (nodeCount d) first (d .sourceLengths) (d .sourceValues)
+sources-listed d first a h =
+    record {
+      total = a .sources .total;
+      below = a .sources .below;
+      few-lists = omega (arith, a .fewOps, a .sources .count);
+      few-values = omega (arith, a .sources .room);
+    }
 
 -- where all are below n, all are counted there
 pub below-all : (n : ℕ) (l : List ℕ) → ((u : ℕ) → u ∈ l → u < n) → below n l ≡ length l

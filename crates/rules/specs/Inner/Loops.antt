@@ -23,11 +23,11 @@ pub record Running (n : ℕ) (t t' : List ℕ) : Type 0 where
   pub sums : (v : ℕ) → v < n → getD t' v 0 ≡ sum (take (v + 1) t)
   pub rest : (v : ℕ) → n ≤ v → getD t' v 0 ≡ getD t v 0
 
--- lists of numbers below n, few enough to count
-pub record Listed (n : ℕ) (lens vals : List ℕ) : Type 0 where
+-- lists of numbers below n, few enough to count, and to number from first on
+pub record Listed (n first : ℕ) (lens vals : List ℕ) : Type 0 where
   pub total : sum lens ≡ length vals
   pub below : (u : ℕ) → u ∈ vals → u < n
-  pub few-lists : n + length lens < 2 ^ 31
+  pub few-lists : first + length lens < 2 ^ 31
   pub few-values : length vals < 2 ^ 31
 
 -- A table with a cursor for each number below n in its first o words, and behind them room for as many words as there are values.

@@ -1,0 +1,139 @@
+use Prim.Native.Nat.{_≤_}
+use mathlib.Core.Path.{_≡_}
+use native.Mathlib.Omega.{arith}
+use lib.ListN.{length, length-take}
+use lib.Seq.{length-take-le}
+use Rattle.rules.specs.Drawing.{Drawing, drawing, Accepted}
+use Rattle.rules.specs.Refusals.{workspaceNeed}
+use Rattle.rules.specs.Calls.{drawingRefusal}
+use Rattle.rules.specs.Facts.Accepts.{accepted-iff}
+use Rattle.rules.specs.Facts.Refusing.{fine-none, faulty-number}
+use Rattle.rules.specs.Facts.Acyclic.{acyclic-faulty, acyclic-short, acyclic-decided}
+use borrow.Author.Needs.{needs}
+use Rattle.graph.proofs.acyclic.is_acyclic.Statement.{statement}
+use Rattle.graph.proofs.acyclic.is_acyclic.Tie as tie
+use Rattle.graph.proofs.acyclic.is_acyclic.Reads as reads
+use Rattle.graph.proofs.acyclic.is_acyclic.Lts as lts
+use Rattle.graph.proofs.acyclic.decide.Reads as decide-reads
+use Rattle.hypergraph.proofs.check.check_drawing.Reads as check-drawing-reads
+
+module _ (s : tie.Start) where
+  abbrev d : Drawing
+  d = drawing (s .args .w .now) (s .args .x .now) (s .args .sl .now) (s .args .sv .now) (s .args .tl .now) (s .args .tv .now)
+
+-- the drawing is fine
+module _ (c : tie.After-enum-told) where
+  abbrev s : tie.Start
+  s = c .before .before .before .before .before .before .before .before .before .before
+
+  fine : drawingRefusal (d s) ≡ 0
+  fine = fine-none (c .before .before .check-drawing .result) (c .before .before .check-drawing .ensures .refusal) (cc)
+
+  accepted : Accepted (d s)
+  accepted = (accepted-iff (d s)) .0 fine
+
+-- and the room is enough
+module _ (c : tie.Else1) where
+  enough : workspaceNeed (d (s (c .before))) ≤ length (s (c .before) .args .ws .now)
+  enough = c .if1 .left
+
+-- src/acyclic.rt:32:11
+check-drawing-requires : tie.Need-check-drawing-requires
+check-drawing-requires c κs = search needs
+
+-- src/acyclic.rt:33:25
+enum-known-why : tie.Need-enum-known-why
+enum-known-why c = search needs
+
+-- src/acyclic.rt:35:30
+enum-told : tie.Need-enum-told
+enum-told c = search needs
+
+-- src/acyclic.rt:35:30
+add-words : tie.Need-add-words
+add-words c = search needs
+
+-- src/acyclic.rt:35:25
+mul-words : tie.Need-mul-words
+mul-words c = let a = accepted c in omega (arith, a .fewNodes, a .fewOps)
+
+-- src/acyclic.rt:35:56
+add-words-2 : tie.Need-add-words-2
+add-words-2 c = search needs
+
+-- src/acyclic.rt:35:51
+mul-words-2 : tie.Need-mul-words-2
+mul-words-2 c = search needs
+
+-- src/acyclic.rt:35:25
+add-words-3 : tie.Need-add-words-3
+add-words-3 c = let a = accepted c in omega (arith, a .fewNodes, a .fewOps, a .sources .room, a .targets .room)
+
+-- src/acyclic.rt:35:25
+add-words-4 : tie.Need-add-words-4
+add-words-4 c = let a = accepted c in omega (arith, a .fewNodes, a .fewOps, a .sources .room, a .targets .room)
+
+-- src/acyclic.rt:37:17
+returns : tie.Need-returns
+returns c = acyclic-short (d (s (c .before))) (s (c .before) .args .ws .now) (fine (c .before)) (c .if1 .taken)
+
+-- src/acyclic.rt:39:23
+slice-relend-prefix-decide : tie.Need-slice-relend-prefix-decide
+slice-relend-prefix-decide c = search needs
+
+-- src/acyclic.rt:39:23
+slice-aggregate-decide : tie.Need-slice-aggregate-decide
+slice-aggregate-decide c = simp length-take (omega arith)
+
+-- src/acyclic.rt:39:16
+decide-requires : tie.Need-decide-requires
+decide-requires c κs = let f = c .before .before in (accepted f, length-take-le (workspaceNeed (d (s f))) (s f .args .ws .now) (enough (c .before)))
+
+-- src/acyclic.rt:29:1
+returns-2 : tie.Need-returns-2
+returns-2 c = let s = c .before .before .before .before .before .before .before .before .before .before .before in acyclic-faulty (d s) (s .args .ws .now) (c .before .why .given .0 .0) (faulty-number (c .before .before .before .check-drawing .result) (c .before .why .given .0 .0) (c .before .before .before .check-drawing .ensures .refusal) (cc))
+
+-- src/acyclic.rt:29:1
+same-length : tie.Need-same-length
+same-length c = search needs
+
+-- src/acyclic.rt:29:1
+returns-3 : tie.Need-returns-3
+returns-3 c =
+    let e = c .before .before .before .before .before in
+    let f = e .before in
+    rw (c .if2 .taken) at (acyclic-decided (d (s f)) (s f .args .ws .now) (c .before .before .before .decide .last .0) (c .before .before .before .decide .result) (fine f) (enough e) (c .before .before .before .decide .ensures))
+
+-- src/acyclic.rt:29:1
+same-length-2 : tie.Need-same-length-2
+same-length-2 c = search needs
+
+-- src/acyclic.rt:29:1
+returns-4 : tie.Need-returns-4
+returns-4 c =
+    let e = c .before .before .before .before .before in
+    let f = e .before in
+    rw (c .if2 .left) at (acyclic-decided (d (s f)) (s f .args .ws .now) (c .before .before .before .decide .last .0) (c .before .before .before .decide .result) (fine f) (enough e) (c .before .before .before .decide .ensures))
+
+pub is-acyclic-spec : {M : Type 1} → statement M
+is-acyclic-spec =
+    tie.close
+    (tie.spec
+    check-drawing-requires
+    enum-known-why
+    enum-told
+    add-words
+    mul-words
+    add-words-2
+    mul-words-2
+    add-words-3
+    add-words-4
+    returns
+    slice-relend-prefix-decide
+    slice-aggregate-decide
+    decide-requires
+    returns-2
+    same-length
+    returns-3
+    same-length-2
+    returns-4)

@@ -1,0 +1,225 @@
+use Prim.Native.Nat.{ℕ, _≤_, _<_, _-_, _+_}
+use mathlib.Core.Path.{_≡_, refl, sym, ap, _∙_}
+use mathlib.Core.List.{List, _∷_}
+use native.Mathlib.Omega.{arith}
+use lib.ListN.{length, getD, take}
+use lib.Seq.{length-take-le, getD-take}
+use Rattle.rules.specs.Inner.Walk.{Standing, Laid}
+use Rattle.rules.specs.Facts.Standing.{releasable, release-stands, still-laid, rowFrom, row-more, row-over, hand-low, hand-shallow, taken, stands-still}
+use Rattle.rules.specs.Facts.Tables.{row-end}
+use borrow.Author.Needs.{needs}
+use Rattle.graph.proofs.kahn.follow.Statement.{statement}
+use Rattle.graph.proofs.kahn.follow.Tie as tie
+use Rattle.graph.proofs.kahn.follow.Reads as reads
+use Rattle.graph.proofs.kahn.follow.Lts as lts
+use Rattle.graph.proofs.kahn.release.Reads as release-reads
+
+abbrev Inv-loop : tie.InvT-loop
+Inv-loop ws₀ k b head tail i far end p₀ len₀ ws p len = (length ws ≡ length ws₀) × (k + 1 + end ≤ b) × Standing (take b ws₀) k b (head + 1) len (rowFrom k (take b ws₀) p end) far ws
+
+abbrev μ-loop : tie.MeasureT-loop
+μ-loop ws₀ k b head tail i far end p₀ len₀ ws p len = end - p
+
+-- the item in hand
+module _ (s : tie.Start Inv-loop μ-loop) where
+  abbrev i : ℕ
+  i = getD (s .args .ws .now) (s .args .b + s .args .k + s .args .head) 0
+
+  low : i < s .args .k
+  low = hand-low (s .pre .0) (s .pre .1 .0) (s .pre .1 .1 .0) (s .pre .1 .1 .1)
+
+  shallow : getD (s .args .ws .now) (s .args .b + s .args .k + s .args .k + i) 0 ≤ s .args .k
+  shallow = hand-shallow (s .pre .0) (s .pre .1 .0) (s .pre .1 .1 .0) (s .pre .1 .1 .1)
+
+  table-long : length (take (s .args .b) (s .args .ws .now)) ≡ s .args .b
+  table-long = length-take-le (s .args .b) (s .args .ws .now) (omega (arith, s .pre .0 .fits))
+
+  row-in : s .args .k + 1 + getD (s .args .ws .now) (i + 1) 0 ≤ s .args .b
+  row-in =
+      omega (
+        arith,
+        row-end (s .args .k) (take (s .args .b) (s .args .ws .now)) (s .pre .1 .0) (i + 1) (omega (arith, low)),
+        table-long,
+        getD-take (s .args .b) (s .args .ws .now) (i + 1) 0 (omega (arith, low, s .pre .0 .table)),
+      )
+
+module _ (c : tie.In-loop Inv-loop μ-loop) where
+  abbrev s : tie.Start Inv-loop μ-loop
+  s = c .before .before .before .before .before .before .before
+
+  abbrev b : ℕ
+  b = s .args .b
+
+  abbrev k : ℕ
+  k = s .args .k
+
+  abbrev p : ℕ
+  p = c .before .loop .p
+
+  abbrev ws : List ℕ
+  ws = c .before .loop .ws
+
+  laid : Laid k b ws
+  laid = still-laid (s .pre .0) (c .before .loop .inv .0)
+
+  -- the listing that is read is the row's next
+  read : getD ws (k + 1 + p) 0 ≡ getD (take b (s .args .ws .now)) (k + 1 + p) 0
+  read = sym (getD-take b ws (k + 1 + p) 0 (omega arith)) ∙ ap (λ (t : List ℕ). getD t (k + 1 + p) 0) (c .before .loop .inv .2 .table)
+
+  next : Standing (take b (s .args .ws .now)) k b (s .args .head + 1) (c .before .loop .len)
+      (getD ws (k + 1 + p) 0 ∷ rowFrom k (take b (s .args .ws .now)) (p + 1) (getD (s .args .ws .now) (i s + 1) 0)) (getD (s .args .ws .now) (b + k + k + i s) 0 + 1) ws
+  next = rw read (rw (row-more k (take b (s .args .ws .now)) p (getD (s .args .ws .now) (i s + 1) 0) (c .loop-test .taken) (omega (arith, table-long s))) at (c .before .loop .inv .2))
+
+-- src/kahn.rt:69:16
+add-i : tie.Need-add-i Inv-loop μ-loop
+add-i c = search needs
+
+-- src/kahn.rt:69:16
+add-i-2 : tie.Need-add-i-2 Inv-loop μ-loop
+add-i-2 c = search needs
+
+-- src/kahn.rt:69:13
+mul-i : tie.Need-mul-i Inv-loop μ-loop
+mul-i c = search needs
+
+-- src/kahn.rt:69:13
+slice-read-i : tie.Need-slice-read-i Inv-loop μ-loop
+slice-read-i c = search needs
+
+-- src/kahn.rt:69:13
+cast-i : tie.Need-cast-i Inv-loop μ-loop
+cast-i c = let s = c .before .before in omega (arith, c .slice-known2 .given (s .args .b + s .args .k + s .args .head))
+
+-- src/kahn.rt:70:18
+add-far : tie.Need-add-far Inv-loop μ-loop
+add-far c = search needs
+
+-- src/kahn.rt:70:18
+add-far-2 : tie.Need-add-far-2 Inv-loop μ-loop
+add-far-2 c = search needs
+
+-- src/kahn.rt:70:18
+add-far-3 : tie.Need-add-far-3 Inv-loop μ-loop
+add-far-3 c = omega (arith, low (c .before .before))
+
+-- src/kahn.rt:70:15
+mul-far : tie.Need-mul-far Inv-loop μ-loop
+mul-far c = omega (arith, low (c .before .before))
+
+-- src/kahn.rt:70:15
+slice-read-far : tie.Need-slice-read-far Inv-loop μ-loop
+slice-read-far c = omega (arith, low (c .before .before .before))
+
+-- src/kahn.rt:70:15
+add-far-4 : tie.Need-add-far-4 Inv-loop μ-loop
+add-far-4 c = let s = c .before .before .before in omega (arith, shallow s, s .pre .0 .small, s .pre .0 .table)
+
+-- src/kahn.rt:71:18
+add-end : tie.Need-add-end Inv-loop μ-loop
+add-end c = omega (arith, low (c .before .before .before))
+
+-- src/kahn.rt:71:15
+mul-end : tie.Need-mul-end Inv-loop μ-loop
+mul-end c = omega (arith, low (c .before .before .before))
+
+-- src/kahn.rt:71:15
+slice-read-end : tie.Need-slice-read-end Inv-loop μ-loop
+slice-read-end c = omega (arith, low (c .before .before .before .before))
+
+-- src/kahn.rt:71:15
+cast-end : tie.Need-cast-end Inv-loop μ-loop
+cast-end c = let s = c .before .before .before .before in omega (arith, c .slice-known4 .given (i s + 1))
+
+-- src/kahn.rt:72:17
+mul-p : tie.Need-mul-p Inv-loop μ-loop
+mul-p c = omega (arith, low (c .before .before .before .before))
+
+-- src/kahn.rt:72:17
+slice-read-p : tie.Need-slice-read-p Inv-loop μ-loop
+slice-read-p c = omega (arith, low (c .before .before .before .before .before))
+
+-- src/kahn.rt:72:17
+cast-p : tie.Need-cast-p Inv-loop μ-loop
+cast-p c = let s = c .before .before .before .before .before in omega (arith, c .slice-known5 .given (i s))
+
+-- src/kahn.rt:74:5
+loop-holds : tie.Need-loop-holds Inv-loop μ-loop
+loop-holds c = let s = c .before .before .before .before .before in (refl, row-in s, taken (s .pre .0) (s .pre .1 .0) (s .pre .1 .1 .0) (s .pre .1 .1 .1))
+
+-- src/kahn.rt:75:20
+add-s : tie.Need-add-s Inv-loop μ-loop
+add-s c = search needs
+
+-- src/kahn.rt:75:20
+add-s-2 : tie.Need-add-s-2 Inv-loop μ-loop
+add-s-2 c = search needs
+
+-- src/kahn.rt:75:17
+mul-s : tie.Need-mul-s Inv-loop μ-loop
+mul-s c = search needs
+
+-- src/kahn.rt:75:17
+slice-read-s : tie.Need-slice-read-s Inv-loop μ-loop
+slice-read-s c = search needs
+
+-- src/kahn.rt:76:9
+release-requires : tie.Need-release-requires Inv-loop μ-loop
+release-requires c κs = (laid (c .before .before), releasable (laid (c .before .before)) (next (c .before .before)))
+
+-- src/kahn.rt:77:9
+add-p : tie.Need-add-p Inv-loop μ-loop
+add-p c = search needs
+
+-- src/kahn.rt:74:5
+loop-less : tie.Need-loop-less Inv-loop μ-loop
+loop-less c = search needs
+
+-- src/kahn.rt:74:5
+loop-again : tie.Need-loop-again Inv-loop μ-loop
+loop-again c = let l = c .before .before .before .before .before in (c .before .before .release .ensures .long ∙ l .before .loop .inv .0, l .before .loop .inv .1, release-stands (laid l) (next l) (c .before .before .release .ensures))
+
+-- src/kahn.rt:63:1
+same-length : tie.Need-same-length Inv-loop μ-loop
+same-length c = search needs
+
+-- src/kahn.rt:63:1
+returns : tie.Need-returns Inv-loop μ-loop
+returns c =
+    let s = c .before .before .before .before .before .before .before in
+    stands-still (rw (row-over (s .args .k) (take (s .args .b) (s .args .ws .now)) (c .before .loop .p) (getD (s .args .ws .now) (i s + 1) 0) (c .loop-test .left)) at (c .before .loop .inv .2))
+
+pub follow-spec : {M : Type 1} → statement M
+follow-spec =
+    tie.close
+    (tie.spec
+    Inv-loop
+    μ-loop
+    add-i
+    add-i-2
+    mul-i
+    slice-read-i
+    cast-i
+    add-far
+    add-far-2
+    add-far-3
+    mul-far
+    slice-read-far
+    add-far-4
+    add-end
+    mul-end
+    slice-read-end
+    cast-end
+    mul-p
+    slice-read-p
+    cast-p
+    loop-holds
+    add-s
+    add-s-2
+    mul-s
+    slice-read-s
+    release-requires
+    add-p
+    loop-less
+    loop-again
+    same-length
+    returns)

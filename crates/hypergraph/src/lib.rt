@@ -1,0 +1,3 @@
+// Drawings: their checks, and the table of their incidence graph.
+pub mod check;
+pub mod incidence;
