@@ -7,12 +7,12 @@ use mathlib.Core.Logic.{_⊎_, inl, inr}
 use mathlib.Core.Path.{_≡_, refl, sym, ap, _∙_}
 use borrow.Author.Tests.{le-leb, lt-leb, ne-eqb}
 use Rattle.rules.specs.Lists.{has}
-use Rattle.rules.specs.Drawing.{Drawing}
+use Rattle.rules.specs.Drawing.{Drawing, Boundary, nodeCount}
 use Rattle.rules.specs.declared.Done.{Done}
 use Rattle.rules.specs.declared.Done.the-variants.{Fine, Faulty}
-use Rattle.rules.specs.Refusals.{number, refusalOf, firstOf, unless, shortRoom, within, lengthsFit, valuesStand, badLengths, badValue, early, leftOver, written}
+use Rattle.rules.specs.Refusals.{number, refusalOf, firstOf, unless, shortRoom, within, lengthsFit, valuesStand, badLengths, badValue, early, leftOver, written, badBoundary, boundaryStands}
 use Rattle.rules.specs.Calls.{drawingRefusal}
-use Rattle.rules.specs.Inner.Checks.{listsRefusal}
+use Rattle.rules.specs.Inner.Checks.{listsRefusal, boundaryListsRefusal}
 use Rattle.rules.specs.declared.Refusal.{Refusal}
 use Rattle.rules.specs.declared.Refusal.the-variants.{OverLimit, BadLengths, BadValue, BadEntry, TypeMismatchW, TypeMismatchX, NotNaturalW, NotNaturalX, NotNaturalS, NotNaturalT, ShortRoom, BadBoundary, Unplaced, WrongOperation, BadText}
 
@@ -95,3 +95,17 @@ unfolding drawingRefusal
 drawing-early d =
     early-first (unless (within d) 1) (badLengths d ∷ badValue d ∷ []) (early-unless (within d) 1 refl)
     (early-first (badLengths d) (badValue d ∷ []) (early-unless (lengthsFit d) 2 refl) (early-first (badValue d) [] (early-unless (valuesStand d) 3 refl) (inl refl)))
+
+-- 12 behind 2 and 3
+module _ (d : Drawing) (b : Boundary) where
+  pub bound-faulty : (why : Refusal) → number why ≡ listsRefusal d → number why ≡ boundaryListsRefusal d b
+  unfolding listsRefusal boundaryListsRefusal
+  bound-faulty why e = sym (first-append (badLengths d ∷ badValue d ∷ []) (badBoundary d b ∷ []) (number why) e (number-some why))
+
+  pub bound-tested : (r : Bool) → listsRefusal d ≡ 0 → r ≡ boundaryStands (nodeCount d) b → unless r 12 ≡ boundaryListsRefusal d b
+  unfolding listsRefusal boundaryListsRefusal
+  bound-tested r e q = sym (first-behind (badLengths d ∷ badValue d ∷ []) (badBoundary d b ∷ []) e ∙ rw (← q) (alone r))
+    where
+      alone : (r : Bool) → firstOf (unless r 12 ∷ []) ≡ unless r 12
+      alone true = refl
+      alone false = refl

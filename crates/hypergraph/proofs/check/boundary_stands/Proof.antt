@@ -1,0 +1,21 @@
+use borrow.Author.Needs.{needs}
+use Rattle.hypergraph.proofs.check.boundary_stands.Statement.{statement}
+use Rattle.hypergraph.proofs.check.boundary_stands.Tie as tie
+use Rattle.hypergraph.proofs.check.boundary_stands.Reads as reads
+use Rattle.hypergraph.proofs.check.boundary_stands.Lts as lts
+use Rattle.array.proofs.all_below.Reads as all-below-reads
+
+-- src/check.rt:102:5
+all-below-requires : tie.Need-all-below-requires
+all-below-requires c κs = search needs
+
+-- src/check.rt:102:35
+all-below-requires-2 : tie.Need-all-below-requires-2
+all-below-requires-2 c κs = search needs
+
+-- src/check.rt:99:1
+returns : tie.Need-returns
+returns c = cc
+
+pub boundary-stands-spec : {M : Type 1} → statement M
+boundary-stands-spec = tie.close (tie.spec all-below-requires all-below-requires-2 returns)
