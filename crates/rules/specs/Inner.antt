@@ -6,3 +6,4 @@ pub mod Loops
 pub mod IncidenceTable
 pub mod Checks
 pub mod Acyclic
+pub mod Layering
