@@ -32,3 +32,5 @@ pub mod Worked
 pub mod Refusing
 pub mod Acyclic
 pub mod Traps
+pub mod Determined
+pub mod WorkedCalls

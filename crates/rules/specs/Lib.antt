@@ -12,5 +12,6 @@ pub mod Text
 pub mod Program
 pub mod Promises
 pub mod Worked
+pub mod WorkedCalls
 pub mod Inner
 pub mod Facts
