@@ -29,3 +29,9 @@ pub mod Standing
 pub mod Incident
 pub mod WalkTells
 pub mod Worked
+pub mod TextWords
+pub mod TextSections
+pub mod Writing
+pub mod NumberAgain
+pub mod OutputLong
+pub mod WorkedText
