@@ -7,12 +7,17 @@ use lib.ListN.{length, getD, take, drop, length-append}
 use lib.Seq.{sets, sets-eq, length-sets, drop-drop, take-append-seam, drop-append-seam}
 use Rattle.rules.specs.Lists.{sum, concat}
 use Rattle.rules.specs.Text.{Sections, whole, broken, wholeText, limits}
+use Rattle.rules.specs.Facts.Placing.{sum-take, sum-take-le, sum-all}
 use Rattle.rules.specs.Facts.TextSections.{Fit, whole-fits}
 use Rattle.text.specs.declared.Text.{Text}
 use Rattle.text.specs.declared.Text.the-variants.{Read as TextRead, Refused as TextRefused}
 use Rattle.text.specs.Reading.{lengths, finished, numbersOf, textAnswer, ReadText, sectionsOf, mostNumbers}
 use Rattle.text.specs.Facts.Sets.{sets-all}
 use Rattle.text.specs.Facts.Sections.{limits-sum}
+
+-- a section ends within the numbers
+pub section-inside : (cs : List ℕ) (k : ℕ) → k < length cs → sum (take k cs) + getD cs k 0 ≤ sum cs
+section-inside cs k h = omega (arith, sum-take cs k, sum-take-le cs (k + 1) (length cs) (omega arith), sum-all cs)
 
 section-at : (cs ns : List ℕ) (k : ℕ) → k < length cs → getD (sectionsOf cs ns) k [] ≡ take (getD cs k 0) (drop (sum (take k cs)) ns)
 unfolding sectionsOf
