@@ -2,3 +2,4 @@ pub mod Sets
 pub mod Numbers
 pub mod Sections
 pub mod Parts
+pub mod Puts

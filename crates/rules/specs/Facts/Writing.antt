@@ -7,8 +7,9 @@ use native.Mathlib.Nat.{div-lt-self, div-lt-iff-lt-mul, pow-succ'}
 use native.Mathlib.Omega.{arith}
 use lib.ListN.{length, getD, drop, length-append, drop-of-length-le}
 use lib.Dec.{ltb, lit<}
-use borrow.Author.Tests.{lt-ltb, le-ltb}
-use Rattle.rules.specs.Program.{spelled, decimal, item, line, lines, column, operationsHeader, valueLines, refusedLine}
+use borrow.Author.Tests.{lt-ltb, le-ltb, eq-eqb, ne-eqb}
+use Rattle.rules.specs.Lists.{those}
+use Rattle.rules.specs.Program.{spelled, decimal, item, line, lines, column, operationsHeader, valueLines, refusedLine, unplacedCount}
 use Rattle.rules.specs.Facts.Counts.{drop-more}
 
 -- Decimals. A number of j + 2 digits has a tenth of j + 1.
@@ -56,6 +57,20 @@ module _ (l : List ℕ) (i : ℕ) where
   pub lines-end : (ms : List ℕ) → length l ≤ i → lines i (drop i l) (drop i ms) ≡ []
   unfolding lines
   lines-end ms h = rw (drop-of-length-le l h)
+
+-- one mark more, at `drop i`
+module _ (ms : List ℕ) (i : ℕ) where
+  pub unplaced-more : i < length ms → getD ms i 0 ≡ 1 → unplacedCount (drop i ms) ≡ 1 + unplacedCount (drop (i + 1) ms)
+  unfolding those
+  unplaced-more h e = rw (drop-more ms i h, eq-eqb (getD ms i 0) 1 e) (omega arith)
+
+  pub unplaced-other : i < length ms → ¬ (getD ms i 0 ≡ 1) → unplacedCount (drop i ms) ≡ unplacedCount (drop (i + 1) ms)
+  unfolding those
+  unplaced-other h n = rw (drop-more ms i h, ne-eqb (getD ms i 0) 1 n)
+
+  pub unplaced-end : length ms ≤ i → unplacedCount (drop i ms) ≡ 0
+  unfolding those
+  unplaced-end h = rw (drop-of-length-le ms h)
 
 -- How long each piece is.
 spelled-length : (k n : ℕ) → length (spelled k n) ≤ k
