@@ -5,7 +5,8 @@ use mathlib.Core.Path.{_≡_, refl, ap, _∙_}
 use native.Mathlib.Omega.{arith}
 use lib.ListN.{length, set, length-append}
 use lib.Seq.{sets, length-sets}
-use Rattle.text.specs.Writing.{Put}
+use Rattle.rules.specs.Program.{operationsHeader, unplacedCount, lines}
+use Rattle.text.specs.Writing.{Put, operations}
 use Rattle.text.specs.Facts.Sets.{sets-append}
 
 pub put-one : (b at : ℕ) (out : List ℕ) → Put (b ∷ []) at out (set out at b) (at + 1)
@@ -52,3 +53,9 @@ module _ {at : ℕ} {out₀ whole : List ℕ} {p : ℕ} {out : List ℕ} where
 
   pub rest-none : Rest at out₀ whole p out [] → Put whole at out₀ out p
   rest-none r = record { holds = r .same; next = omega (arith, r .place) }
+
+-- the operations' header and lines, the unplaced being counted
+pub operations-start : (at : ℕ) (out orders marks : List ℕ) (unplaced : ℕ) → unplaced ≡ unplacedCount marks → at + length (operations orders marks) ≤ length out
+    → Rest at out (operations orders marks) at out (operationsHeader (length orders) unplaced ++ lines 0 orders marks)
+unfolding operations
+operations-start at out orders marks unplaced e h = rw e (rest-start at out (operations orders marks) h)
