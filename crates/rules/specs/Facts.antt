@@ -33,5 +33,6 @@ pub mod TextWords
 pub mod TextSections
 pub mod Writing
 pub mod NumberAgain
+pub mod Output
 pub mod OutputLong
 pub mod WorkedText

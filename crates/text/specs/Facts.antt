@@ -3,3 +3,4 @@ pub mod Numbers
 pub mod Sections
 pub mod Parts
 pub mod Puts
+pub mod Answers

@@ -1,45 +1,53 @@
--- What the program writes, by cases, and a room that holds it whatever it reads.
-use Prim.Native.Nat.{ℕ, zero, suc, _+_, _*_, _≤_, _<_}
+-- How large a whole text can be, and a room that holds what the program writes, whatever it reads.
+use Prim.Native.Nat.{ℕ, zero, suc, _+_, _*_, _≤_}
 use mathlib.Core.Bool.{Bool, true, false, cond}
 use mathlib.Core.List.{List, [], _∷_}
 use mathlib.Core.Path.{_≡_, refl, _∙_}
 use native.Mathlib.Omega.{arith}
 use lib.ListN.{length, length-append, length-map}
 use lib.Dec.{leb}
-use borrow.Author.Tests.{le-leb, lt-leb}
 use Rattle.rules.specs.Lists.{range}
-use Rattle.rules.specs.Drawing.{Drawing, Boundary, opCount}
+use Rattle.rules.specs.Drawing.{Drawing, Boundary, nodeCount, opCount}
 use Rattle.rules.specs.Graph.{order}
 use Rattle.rules.specs.Analysis.{opNext, orders, marks}
 use Rattle.rules.specs.Evaluation.{evaluated, unplacedOp, wrongOperation}
-use Rattle.rules.specs.Refusals.{firstOf}
+use Rattle.rules.specs.Refusals.{firstOf, workspaceNeed}
 use Rattle.rules.specs.Calls.{boundaryRefusal}
-use Rattle.rules.specs.Text.{Sections, whole, broken, wholeText, mostBytes}
+use Rattle.rules.specs.Text.{Sections, whole, broken, wholeText, limits, mostBytes, mostCounted}
 use Rattle.rules.specs.Program.{lines, operationsHeader, unplacedCount, operationLines, valuesOrRefused, operationsOrRefused, answer, drawingIn, boundaryIn, valuesIn, answerTo, refusedLine, outputOf}
 use Rattle.rules.specs.Facts.Member.{range-length}
-use Rattle.rules.specs.Facts.TextSections.{whole-fits}
+use Rattle.rules.specs.Facts.TextSections.{Fit, whole-fits}
 use Rattle.rules.specs.Facts.Writing.{lines-length, header-length, values-length, refused-length}
 
--- the cases
-module _ (t : List ℕ) where
-  pub output-over : mostBytes < length t → outputOf t ≡ refusedLine 1
-  unfolding outputOf
-  output-over h = rw (lt-leb (length t) mostBytes h)
+-- the words of workspace that a drawing in a text can need: 8 (256 + 256) + 2 (1024 + 1024) + 8
+abbrev pub mostWords : ℕ
+mostWords = 8200
 
-  module _ (h : length t ≤ mostBytes) where
-    pub output-broken : (ls : List (List ℕ)) (ms : List ℕ) (k : ℕ) → wholeText t ≡ broken ls ms k → outputOf t ≡ refusedLine k
-    unfolding outputOf
-    output-broken ls ms k e = rw (le-leb (length t) mostBytes h, e)
+-- the lists of a whole text, by their limits
+pub record Sized (ls : List (List ℕ)) : Type 0 where
+  pub nodes : nodeCount (drawingIn ls) ≤ mostCounted
+  pub ops : opCount (drawingIn ls) ≤ mostCounted
+  pub inputs : length (boundaryIn ls .inputs) ≤ mostCounted
+  pub outputs : length (boundaryIn ls .outputs) ≤ mostCounted
+  pub values : length (valuesIn ls) ≤ mostCounted
+  pub workspace : workspaceNeed (drawingIn ls) ≤ mostWords
 
-    pub output-whole : (ls : List (List ℕ)) → wholeText t ≡ whole ls → outputOf t ≡ answer (drawingIn ls) (boundaryIn ls) (valuesIn ls)
-    unfolding outputOf
-    output-whole ls e = rw (le-leb (length t) mostBytes h, e)
+pub whole-sized : {ls : List (List ℕ)} → Fit limits ls → Sized ls
+whole-sized f =
+    record {
+      nodes = f .each 0;
+      ops = f .each 1;
+      inputs = f .each 6;
+      outputs = f .each 7;
+      values = f .each 8;
+      workspace = omega (arith, f .each 0, f .each 1, f .each 3, f .each 5);
+    }
 
--- the room
+-- the room for what is written
 abbrev pub mostWritten : ℕ
 mostWritten = 16384
 
-orders-length : (d : Drawing) → length (orders d) ≡ opCount d
+pub orders-length : (d : Drawing) → length (orders d) ≡ opCount d
 orders-length d = length-map (range (opCount d)) (order (opNext d) (opCount d)) ∙ range-length (opCount d)
 
 operations-length : (d : Drawing) → length (operationLines d) ≤ 42 + 33 * opCount d
@@ -73,8 +81,8 @@ output-long t = go (leb (length t) mostBytes)
   where
     sections : (s : Sections) → wholeText t ≡ s → length (answerTo s) ≤ mostWritten
     sections (whole ls) e =
-        let f = whole-fits t ls e in
-        omega (arith, answer-length (drawingIn ls) (boundaryIn ls) (valuesIn ls), f .each 1, f .each 7)
+        let f = whole-sized (whole-fits t ls e) in
+        omega (arith, answer-length (drawingIn ls) (boundaryIn ls) (valuesIn ls), f .ops, f .outputs)
     sections (broken ls ms k) e = omega (arith, refused-length k)
 
     go : (b : Bool) → length (cond b (answerTo (wholeText t)) (refusedLine 1)) ≤ mostWritten

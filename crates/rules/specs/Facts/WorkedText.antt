@@ -30,6 +30,11 @@ pub record WorkedText : Type 0 where
   pub other : numberAt (11 ∷ 49 ∷ []) 0 ≡ Bad
   -- a count over its limit stands left of what is missing
   pub cut : wholeText (bytes "1 7 257 ,,,") ≡ broken ((7 ∷ []) ∷ []) [] 1
+  -- 256 numbers and 1,024 values are counted, one more is not
+  pub most : wholeText (bytes "256 ,") ≡ broken [] [] 15
+  pub most-values : wholeText (bytes "0 0 0 1024 ,") ≡ broken ([] ∷ [] ∷ [] ∷ []) [] 15
+  pub over-values : wholeText (bytes "0 0 0 1025 ,") ≡ broken ([] ∷ [] ∷ [] ∷ []) [] 1
+  -- numbers that are missing
   pub few : wholeText (bytes "2 7 ") ≡ broken [] (7 ∷ []) 15
   pub empty : wholeText [] ≡ broken [] [] 15
   pub blank : wholeText (bytes " \r\n") ≡ broken [] [] 15
@@ -73,6 +78,9 @@ worked-text =
       separators = refl;
       other = refl;
       cut = refl;
+      most = refl;
+      most-values = refl;
+      over-values = refl;
       few = refl;
       empty = refl;
       blank = refl;

@@ -1,7 +1,7 @@
 -- One section more of a text: what is still to be read decides.
 use Prim.Native.Nat.{ℕ, _+_, _≤_, _<_}
-use mathlib.Core.List.{List, [], _∷_, _++_, append-assoc}
-use mathlib.Core.Path.{_≡_, refl, sym, ap, _∙_}
+use mathlib.Core.List.{List, [], _++_, append-assoc}
+use mathlib.Core.Path.{_≡_, refl, sym, ap}
 use native.Mathlib.Numerals.{add-one}
 use native.Mathlib.Omega.{arith}
 use lib.ListN.{length, getD, drop, set}
@@ -11,7 +11,6 @@ use Rattle.rules.specs.Text.{numberAt, Numbers, allRead, fault, sectionAt, Sect
 use Rattle.rules.specs.declared.Number.the-variants.{Value, Nothing, Bad}
 use Rattle.rules.specs.Facts.Counts.{drop-more}
 use Rattle.rules.specs.Facts.TextSections.{section-count, sections-end, sections-value, sections-bad}
-use Rattle.text.specs.declared.Section.{Section}
 use Rattle.text.specs.declared.Section.the-variants.{Read as SectionRead, Refused as SectionRefused}
 use Rattle.text.specs.declared.Text.{Text}
 use Rattle.text.specs.declared.Text.the-variants.{Read as TextRead, Refused as TextRefused}

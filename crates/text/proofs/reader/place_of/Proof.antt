@@ -1,8 +1,7 @@
-use Prim.Native.Nat.{ℕ, _≤_, _<_, _+_, _-_}
-use mathlib.Core.Path.{_≡_, refl, sym, ap, _∙_}
-use mathlib.Core.List.{List}
+use Prim.Native.Nat.{ℕ, _≤_, _-_}
+use mathlib.Core.Path.{_≡_, refl, ap, _∙_}
 use native.Mathlib.Omega.{arith}
-use lib.ListN.{length, take, getD}
+use lib.ListN.{take}
 use Rattle.rules.specs.Lists.{sum}
 use Rattle.rules.specs.Facts.Placing.{sum-take}
 use Rattle.text.specs.Facts.Parts.{section-inside}

@@ -1,7 +1,6 @@
 use native.Mathlib.Omega.{arith}
-use lib.ListN.{length, drop, length-drop}
-use mathlib.Core.Path.{_≡_, refl, sym, _∙_}
-use Rattle.rules.specs.Text.{word}
+use lib.ListN.{drop, length-drop}
+use mathlib.Core.Path.{_∙_}
 use Rattle.rules.specs.Facts.TextWords.{word-le}
 use Rattle.rules.specs.Facts.TextWords.{nothing-left, word-is}
 use borrow.Author.Needs.{needs}
@@ -15,7 +14,9 @@ word-end-requires : tie.Need-word-end-requires
 word-end-requires c κs = search needs
 
 returns : tie.Need-returns
-returns c = nothing-left (c .before .before .before .before .args .text .now) (c .before .before .before .before .args .at) (c .before .before .skip .result) (c .before .word-end .result) (c .before .before .skip .ensures) (c .before .word-end .ensures) (c .if1 .taken)
+returns c =
+    let a = c .before .before .before .before .args in
+    nothing-left (a .text .now) (a .at) (c .before .before .skip .result) (c .before .word-end .result) (c .before .before .skip .ensures) (c .before .word-end .ensures) (c .if1 .taken)
 
 sub-word-as : tie.Need-sub-word-as
 sub-word-as c = search needs
@@ -24,13 +25,19 @@ part-word-as-start : tie.Need-part-word-as-start
 part-word-as-start c = search needs
 
 part-word-as-end : tie.Need-part-word-as-end
-part-word-as-end c = omega (arith, word-le (drop (c .before .before .skip .result) (c .before .before .before .before .args .text .now)), length-drop (c .before .before .skip .result) (c .before .before .before .before .args .text .now))
+part-word-as-end c =
+    let rest = drop (c .before .before .skip .result) (c .before .before .before .before .args .text .now) in
+    omega (arith, word-le rest, length-drop (c .before .before .skip .result) (c .before .before .before .before .args .text .now))
 
 word-as-requires : tie.Need-word-as-requires
 word-as-requires c κs = search needs
 
 returns-2 : tie.Need-returns-2
-returns-2 c = c .word-as .ensures ∙ word-is (c .before .before .before .before .before .before .args .text .now) (c .before .before .before .before .before .before .args .at) (c .before .before .before .before .skip .result) (c .before .before .before .word-end .result) (c .before .before .before .before .skip .ensures) (c .before .before .before .word-end .ensures) (c .before .before .if1 .left)
+returns-2 c =
+    let a = c .before .before .before .before .before .before .args in
+    let s = c .before .before .before .before .skip in
+    let e = c .before .before .before .word-end in
+    c .word-as .ensures ∙ word-is (a .text .now) (a .at) (s .result) (e .result) (s .ensures) (e .ensures) (c .before .before .if1 .left)
 
 pub read-number-spec : {M : Type 1} → statement M
 read-number-spec =

@@ -1,4 +1,3 @@
-use mathlib.Core.Path.{_≡_, refl, sym, _∙_}
 use native.Mathlib.Omega.{arith}
 use Rattle.rules.specs.Facts.TextSections.{section-read, section-over, section-nothing, section-bad}
 use Rattle.text.specs.Facts.Numbers.{refused-is}
@@ -28,10 +27,16 @@ same-length : tie.Need-same-length
 same-length c = search needs
 
 returns : tie.Need-returns
-returns c = let a = c .before .before .before .before .before .before .before .before .before .before .before .args in rw (section-read (a .limit) (a .text .now) (a .at) (c .before .before .before .before .before .before .n .given .0 .0) (c .before .before .before .before .before .before .n .given .0 .1 .0) (cc) (c .before .before .before .before .if1 .taken)) (c .before .before .read-numbers .ensures)
+returns c =
+    let a = c .before .before .before .before .before .before .before .before .before .before .before .args in
+    let n = c .before .before .before .before .before .before .n .given .0 in
+    rw (section-read (a .limit) (a .text .now) (a .at) (n .0) (n .1 .0) (cc) (omega arith)) (c .before .before .read-numbers .ensures)
 
 returns-2 : tie.Need-returns-2
-returns-2 c = let a = c .before .before .before .before .before .before .before .args in refused-is _ _ _ (section-over (a .limit) (a .text .now) (a .at) (c .before .before .n .given .0 .0) (c .before .before .n .given .0 .1 .0) (cc) (c .if1 .left))
+returns-2 c =
+    let a = c .before .before .before .before .before .before .before .args in
+    let n = c .before .before .n .given .0 in
+    refused-is _ _ _ (section-over (a .limit) (a .text .now) (a .at) (n .0) (n .1 .0) (cc) (omega arith))
 
 returns-3 : tie.Need-returns-3
 returns-3 c = let a = c .before .before .before .before .before .args in refused-is _ _ _ (section-nothing (a .limit) (a .text .now) (a .at) (cc))

@@ -1,7 +1,7 @@
 use Rattle.text.specs.declared.Section.the-variants.{Read as SectionRead, Refused as SectionRefused}
-use Prim.Native.Nat.{ℕ, _≤_, _<_, _+_, _-_}
+use Prim.Native.Nat.{ℕ, _≤_, _+_, _-_}
 use mathlib.Core.Path.{_≡_, refl, sym, _∙_}
-use mathlib.Core.List.{List, [], _++_}
+use mathlib.Core.List.{List, _++_}
 use native.Mathlib.Omega.{arith}
 use lib.ListN.{length, getD, take, drop, length-set, length-take, length-drop, drop-of-length-le}
 use lib.Seq.{sets, length-sets}
@@ -129,7 +129,10 @@ same-length-2 c = long (c .before .before .before .before) ∙ c .before .before
 returns : tie.Need-returns Inv-loop μ-loop
 returns c =
     let b = c .before .before .before .before in
-    text-is _ _ _ _ _ _ (sym (c .before .before .before .before .before .before .before .before .before .loop .inv .4) ∙ text-fault limits (t b) (cs b) (ns b) (k b) (used b) (at b) (c .before .before .before .before .before .before .before .before .loop-test .taken) (c .before .r .given .0 .0) (ns' b) (sym (c .before .r .given .1) ∙ answers b) (wrote b))
+    let r = c .before .r .given in
+    text-is _ _ _ _ _ _
+    (sym (c .before .before .before .before .before .before .before .before .before .loop .inv .4)
+    ∙ text-fault limits (t b) (cs b) (ns b) (k b) (used b) (at b) (c .before .before .before .before .before .before .before .before .loop-test .taken) (r .0 .0) (ns' b) (sym (r .1) ∙ answers b) (wrote b))
 
 add-k : tie.Need-add-k Inv-loop μ-loop
 add-k c = search needs
@@ -140,13 +143,10 @@ loop-less c = search needs
 loop-again : tie.Need-loop-again Inv-loop μ-loop
 loop-again c =
     let b = c .before .before .before .before in
-    let m = c .before in (
-      omega arith,
-      simp length-set (c .before .before .before .before .before .before .before .before .before .loop .inv .1),
-      long b ∙ c .before .before .before .before .before .before .before .before .before .loop .inv .2,
-      omega (arith, small m),
-      sym (text-more limits (t b) (cs b) (ns b) (k b) (used b) (at b) (c .before .before .before .before .before .before .before .before .loop-test .taken) (n m) (e m) (ns' b) (read m) (wrote b)) ∙ c .before .before .before .before .before .before .before .before .before .loop .inv .4,
-    )
+    let m = c .before in
+    let inv = c .before .before .before .before .before .before .before .before .before .loop .inv in
+    let more = text-more limits (t b) (cs b) (ns b) (k b) (used b) (at b) (c .before .before .before .before .before .before .before .before .loop-test .taken) (n m) (e m) (ns' b) (read m) (wrote b) in
+    (omega arith, simp length-set (inv .1), long b ∙ inv .2, omega (arith, small m), sym more ∙ inv .4)
 
 read-number-requires : tie.Need-read-number-requires Inv-loop μ-loop
 read-number-requires c κs = search needs
@@ -167,7 +167,11 @@ same-length-4 : tie.Need-same-length-4 Inv-loop μ-loop
 same-length-4 c = search needs
 
 returns-2 : tie.Need-returns-2 Inv-loop μ-loop
-returns-2 c = text-is _ _ _ _ _ _ (sym (c .before .before .before .before .loop .inv .4) ∙ text-end limits (c .before .before .before .before .before .before .before .before .args .text .now) (c .before .before .before .before .loop .counts) (c .before .before .before .before .loop .numbers) (c .before .before .before .before .loop .k) (c .before .before .before .before .loop .used) (c .before .before .before .before .loop .at) (drop-of-length-le limits (c .before .before .before .loop-test .left)) (cc))
+returns-2 c =
+    let t = c .before .before .before .before .before .before .before .before .args .text .now in
+    let l = c .before .before .before .before .loop in
+    let h = drop-of-length-le limits (c .before .before .before .loop-test .left) in
+    text-is _ _ _ _ _ _ (sym (l .inv .4) ∙ text-end limits t (l .counts) (l .numbers) (l .k) (l .used) (l .at) h (cc))
 
 same-length-5 : tie.Need-same-length-5 Inv-loop μ-loop
 same-length-5 c = search needs
@@ -176,7 +180,11 @@ same-length-6 : tie.Need-same-length-6 Inv-loop μ-loop
 same-length-6 c = search needs
 
 returns-3 : tie.Need-returns-3 Inv-loop μ-loop
-returns-3 c = text-is _ _ _ _ _ _ (sym (c .before .before .before .before .loop .inv .4) ∙ text-value limits (c .before .before .before .before .before .before .before .before .args .text .now) (c .before .before .before .before .loop .counts) (c .before .before .before .before .loop .numbers) (c .before .before .before .before .loop .k) (c .before .before .before .before .loop .used) (c .before .before .before .before .loop .at) (drop-of-length-le limits (c .before .before .before .loop-test .left)) (c .enum-told2 .given .0 .0) (c .enum-told2 .given .0 .1 .0) (cc))
+returns-3 c =
+    let t = c .before .before .before .before .before .before .before .before .args .text .now in
+    let l = c .before .before .before .before .loop in
+    let h = drop-of-length-le limits (c .before .before .before .loop-test .left) in
+    text-is _ _ _ _ _ _ (sym (l .inv .4) ∙ text-value limits t (l .counts) (l .numbers) (l .k) (l .used) (l .at) h (c .enum-told2 .given .0 .0) (c .enum-told2 .given .0 .1 .0) (cc))
 
 same-length-7 : tie.Need-same-length-7 Inv-loop μ-loop
 same-length-7 c = search needs
@@ -185,7 +193,11 @@ same-length-8 : tie.Need-same-length-8 Inv-loop μ-loop
 same-length-8 c = search needs
 
 returns-4 : tie.Need-returns-4 Inv-loop μ-loop
-returns-4 c = text-is _ _ _ _ _ _ (sym (c .before .before .before .before .loop .inv .4) ∙ text-bad limits (c .before .before .before .before .before .before .before .before .args .text .now) (c .before .before .before .before .loop .counts) (c .before .before .before .before .loop .numbers) (c .before .before .before .before .loop .k) (c .before .before .before .before .loop .used) (c .before .before .before .before .loop .at) (drop-of-length-le limits (c .before .before .before .loop-test .left)) (cc))
+returns-4 c =
+    let t = c .before .before .before .before .before .before .before .before .args .text .now in
+    let l = c .before .before .before .before .loop in
+    let h = drop-of-length-le limits (c .before .before .before .loop-test .left) in
+    text-is _ _ _ _ _ _ (sym (l .inv .4) ∙ text-bad limits t (l .counts) (l .numbers) (l .k) (l .used) (l .at) h (cc))
 
 pub read-text-spec : {M : Type 1} → statement M
 read-text-spec =

@@ -1,9 +1,8 @@
-use Prim.Native.Nat.{ℕ, _≤_, _<_, _+_, _-_}
-use mathlib.Core.Path.{_≡_, refl, sym, ap, _∙_}
-use mathlib.Core.List.{List}
+use Prim.Native.Nat.{_≤_, _+_}
+use mathlib.Core.Path.{refl}
 use native.Mathlib.Omega.{arith}
 use Rattle.rules.specs.Lists.{sum}
-use lib.ListN.{length, take, getD}
+use lib.ListN.{take, getD}
 use Rattle.text.specs.Facts.Parts.{section-inside, part-is}
 use borrow.Author.Needs.{needs}
 use Rattle.text.proofs.reader.section.Statement.{statement}
@@ -42,7 +41,9 @@ part-result-end : tie.Need-part-result-end
 part-result-end c = omega (arith, inside (c .before .before .before .before))
 
 returns : tie.Need-returns
-returns c = part-is (c .before .before .before .before .before .args .counts .now) (c .before .before .before .before .before .args .numbers .now) (c .before .before .before .before .before .args .k) (c .before .before .place-of .result) _ (c .before .before .before .before .before .pre .0) (c .before .before .place-of .ensures) refl
+returns c =
+    let s = c .before .before .before .before .before in
+    part-is (s .args .counts .now) (s .args .numbers .now) (s .args .k) (c .before .before .place-of .result) _ (s .pre .0) (c .before .before .place-of .ensures) refl
 
 pub section-spec : {M : Type 1} → statement M
 section-spec =

@@ -1,8 +1,4 @@
-use Prim.Native.Nat.{_≤_, _+_, _/_, _%_}
-use mathlib.Core.Path.{_≡_, refl, sym, _∙_}
 use native.Mathlib.Omega.{arith}
-use lib.ListN.{length}
-use Rattle.rules.specs.Program.{decimal}
 use Rattle.rules.specs.Facts.Writing.{decimal-small, decimal-more, shorter}
 use Rattle.text.specs.Facts.Puts.{put-then, put-long}
 use borrow.Author.Needs.{needs}
@@ -97,7 +93,9 @@ put-number-put-byte-requires-2 : (t : ℕ) → put-number-lts.Need-put-byte-requ
   put-number-below t,
   put-number.Post,
 ) (put-number-at t) put-number.Post
-put-number-put-byte-requires-2 t c κs = let s = shorter (c .before .before .before .before .before .before .before .args .n) (omega arith) (c .before .before .before .before .before .if1 .left) in omega (arith, s, c .before .before .before .put-number .ensures .next, put-long (c .before .before .before .put-number .ensures))
+put-number-put-byte-requires-2 t c κs =
+    let p = c .before .before .before .put-number .ensures in
+    omega (arith, shorter (c .before .before .before .before .before .before .before .args .n) (omega arith) (c .before .before .before .before .before .if1 .left), p .next, put-long p)
 
 put-number-same-length-2 : (t : ℕ) → put-number-lts.Need-same-length-2 (
   put-byte-reads.Asked,
@@ -113,7 +111,10 @@ put-number-returns-2 : (t : ℕ) → put-number-lts.Need-returns-2 (
   put-number-below t,
   put-number.Post,
 ) (put-number-at t) put-number.Post
-put-number-returns-2 t c = rw (decimal-more (c .before .before .before .before .before .before .before .before .before .before .args .n) (omega (arith, c .before .before .before .before .before .before .before .before .before .before .fits .n)) (c .before .before .before .before .before .before .before .before .if1 .left)) (put-then (c .before .before .before .before .before .before .put-number .ensures) (c .before .before .put-byte2 .ensures))
+put-number-returns-2 t c =
+    let s = c .before .before .before .before .before .before .before .before .before .before in
+    rw (decimal-more (s .args .n) (omega (arith, s .fits .n)) (c .before .before .before .before .before .before .before .before .if1 .left))
+    (put-then (c .before .before .before .before .before .before .put-number .ensures) (c .before .before .put-byte2 .ensures))
 
 pub +put-number-spec : {M : Type 1} → statement M
 +put-number-spec = close μ-put-number λ t. put-number-lts.spec (

@@ -9,8 +9,6 @@ use Rattle.rules.specs.Facts.Writing.{unplaced-more, unplaced-other, unplaced-e
 use borrow.Author.Needs.{needs}
 use Rattle.text.proofs.writer.count_unplaced.Statement.{statement}
 use Rattle.text.proofs.writer.count_unplaced.Tie as tie
-use Rattle.text.proofs.writer.count_unplaced.Reads as reads
-use Rattle.text.proofs.writer.count_unplaced.Lts as lts
 
 abbrev Inv-loop : tie.InvT-loop
 Inv-loop marks n₀ i₀ n i = (i ≤ length marks) × (n ≤ i) × (n + unplacedCount (drop i marks) ≡ unplacedCount marks)
@@ -25,31 +23,24 @@ module _ (c : tie.Joined1 Inv-loop μ-loop) where
   abbrev i : ℕ
   i = c .before .before .before .loop .i
 
--- src/writer.rt:93:5
 loop-holds : tie.Need-loop-holds Inv-loop μ-loop
 loop-holds c = search needs
 
--- src/writer.rt:94:12
 mul-if1 : tie.Need-mul-if1 Inv-loop μ-loop
 mul-if1 c = search needs
 
--- src/writer.rt:94:12
 shared-slice-read-if1 : tie.Need-shared-slice-read-if1 Inv-loop μ-loop
 shared-slice-read-if1 c = search needs
 
--- src/writer.rt:95:13
 add-n : tie.Need-add-n Inv-loop μ-loop
 add-n c = search needs
 
--- src/writer.rt:97:9
 add-i : tie.Need-add-i Inv-loop μ-loop
 add-i c = search needs
 
--- src/writer.rt:93:5
 loop-less : tie.Need-loop-less Inv-loop μ-loop
 loop-less c = search needs
 
--- src/writer.rt:93:5
 loop-again : tie.Need-loop-again Inv-loop μ-loop
 loop-again c =
     let h = c .before .before .loop-test .taken in
@@ -59,7 +50,6 @@ loop-again c =
     (λ w. (omega arith, omega (arith, inv), omega (arith, inv, unplaced-other (marks c) (i c) h (w .0 .left))))
     (c .if1 .came)
 
--- src/writer.rt:87:1
 returns : tie.Need-returns Inv-loop μ-loop
 returns c = omega (arith, c .before .loop .inv, unplaced-end (c .before .before .args .marks .now) (c .before .loop .i) (c .loop-test .left))
 

@@ -1,6 +1,5 @@
 use Prim.Native.Nat.{_≤_, _+_, _-_}
 use mathlib.Core.Path.{_≡_}
-use mathlib.Core.List.{[], _∷_}
 use native.Mathlib.Omega.{arith}
 use lib.ListN.{length, drop, getD, drop-of-length-le}
 use Rattle.rules.specs.Facts.Counts.{drop-more}
@@ -8,8 +7,6 @@ use Rattle.text.specs.Facts.Puts.{Rest, rest-start, rest-more, rest-none
 use borrow.Author.Needs.{needs}
 use Rattle.text.proofs.writer.put_bytes.Statement.{statement}
 use Rattle.text.proofs.writer.put_bytes.Tie as tie
-use Rattle.text.proofs.writer.put_bytes.Reads as reads
-use Rattle.text.proofs.writer.put_bytes.Lts as lts
 
 abbrev Inv-loop : tie.InvT-loop
 Inv-loop out₀ at bs i₀ out i = (i ≤ length bs) × (Rest at out₀ bs (at + i) out (drop i bs))
@@ -17,31 +14,24 @@ Inv-loop out₀ at bs i₀ out i = (i ≤ length bs) × (Rest at out₀ bs (at +
 abbrev μ-loop : tie.MeasureT-loop
 μ-loop out₀ at bs i₀ out i = length bs - i
 
--- src/writer.rt:23:5
 loop-holds : tie.Need-loop-holds Inv-loop μ-loop
 loop-holds c = let z : c .args .at + 0 ≡ c .args .at = omega arith in (omega arith, rw z (rest-start (c .args .at) (c .args .out .now) (c .args .bs .now) (c .pre)))
 
--- src/writer.rt:24:23
 shared-slice-read-out : tie.Need-shared-slice-read-out Inv-loop μ-loop
 shared-slice-read-out c = search needs
 
--- src/writer.rt:24:13
 add-out : tie.Need-add-out Inv-loop μ-loop
 add-out c = search needs
 
--- src/writer.rt:24:9
 slice-write-out : tie.Need-slice-write-out Inv-loop μ-loop
 slice-write-out c = search needs
 
--- src/writer.rt:25:9
 add-i : tie.Need-add-i Inv-loop μ-loop
 add-i c = search needs
 
--- src/writer.rt:23:5
 loop-less : tie.Need-loop-less Inv-loop μ-loop
 loop-less c = search needs
 
--- src/writer.rt:23:5
 loop-again : tie.Need-loop-again Inv-loop μ-loop
 loop-again c =
     let a = c .before .before .before .args in
@@ -49,15 +39,12 @@ loop-again c =
     let z : a .at + (l .i + 1) ≡ a .at + l .i + 1 = omega arith in
     (omega arith, rw z (rest-more (rw (drop-more (a .bs .now) (l .i) (c .before .loop-test .taken)) at (l .inv .1)) (put-one (getD (a .bs .now) (l .i) 0) _ _)))
 
--- src/writer.rt:27:5
 add-result : tie.Need-add-result Inv-loop μ-loop
 add-result c = search needs
 
--- src/writer.rt:18:1
 same-length : tie.Need-same-length Inv-loop μ-loop
 same-length c = c .before .loop .inv .1 .long
 
--- src/writer.rt:18:1
 returns : tie.Need-returns Inv-loop μ-loop
 returns c = rest-none (rw (drop-of-length-le _ (c .loop-test .left)) at (c .before .loop .inv .1))
 

@@ -1,18 +1,13 @@
 use Prim.Native.Nat.{ℕ, _≤_, _+_, _-_}
-use mathlib.Core.Path.{_≡_, refl}
-use mathlib.Core.List.{List, [], _∷_, _++_}
+use mathlib.Core.List.{_++_}
 use native.Mathlib.Omega.{arith}
 use lib.ListN.{length, drop, getD}
-use Rattle.rules.specs.Chars.{bytes}
-use Rattle.rules.specs.Program.{decimal, item, line, lines, column, operationsHeader, unplacedCount, valueLines, refusedLine}
-use Rattle.rules.specs.Facts.Writing.{lines-more, lines-end, column-more, column-end}
-use Rattle.text.specs.Facts.Puts.{Rest, rest-start, rest-more, rest-room, rest-last, rest-none, put-then, put-long}
+use Rattle.rules.specs.Program.{item, column}
+use Rattle.rules.specs.Facts.Writing.{column-more, column-end}
+use Rattle.text.specs.Facts.Puts.{Rest, rest-start, rest-more, rest-room, rest-none}
 use borrow.Author.Needs.{needs}
 use Rattle.text.proofs.writer.put_column.Statement.{statement}
 use Rattle.text.proofs.writer.put_column.Tie as tie
-use Rattle.text.proofs.writer.put_column.Reads as reads
-use Rattle.text.proofs.writer.put_column.Lts as lts
-use Rattle.text.proofs.writer.put_item.Reads as put-item-reads
 
 abbrev Inv-loop : tie.InvT-loop
 Inv-loop out₀ at values p₀ i₀ out p i = (i ≤ length values) × (Rest at out₀ (column values) p out (column (drop i values)))
@@ -34,39 +29,30 @@ module _ (c : tie.In-loop Inv-loop μ-loop) where
   turn : Rest (s .args .at) (s .args .out .now) (column (s .args .values .now)) (l .loop .p) (l .loop .out) (item v 10 ++ column (drop (l .loop .i + 1) (s .args .values .now)))
   turn = rw (column-more (s .args .values .now) (l .loop .i) (c .loop-test .taken)) at (l .loop .inv .1)
 
--- src/writer.rt:120:5
 loop-holds : tie.Need-loop-holds Inv-loop μ-loop
 loop-holds c = (omega arith, rest-start _ _ _ (c .before .before .pre))
 
--- src/writer.rt:121:30
 mul-put-item : tie.Need-mul-put-item Inv-loop μ-loop
 mul-put-item c = search needs
 
--- src/writer.rt:121:30
 shared-slice-read-put-item : tie.Need-shared-slice-read-put-item Inv-loop μ-loop
 shared-slice-read-put-item c = search needs
 
--- src/writer.rt:121:9
 put-item-requires : tie.Need-put-item-requires Inv-loop μ-loop
 put-item-requires c κs = rest-room (item (v (c .before .before)) 10) _ (turn (c .before .before))
 
--- src/writer.rt:122:9
 add-i : tie.Need-add-i Inv-loop μ-loop
 add-i c = search needs
 
--- src/writer.rt:120:5
 loop-less : tie.Need-loop-less Inv-loop μ-loop
 loop-less c = search needs
 
--- src/writer.rt:120:5
 loop-again : tie.Need-loop-again Inv-loop μ-loop
 loop-again c = (omega arith, rest-more {bs = item (v (c .before .before .before .before .before)) 10} (turn (c .before .before .before .before .before)) (c .before .before .put-item .ensures))
 
--- src/writer.rt:114:1
 same-length : tie.Need-same-length Inv-loop μ-loop
 same-length c = c .before .loop .inv .1 .long
 
--- src/writer.rt:114:1
 returns : tie.Need-returns Inv-loop μ-loop
 returns c = rest-none (rw (column-end (c .before .before .before .before .args .values .now) (c .before .loop .i) (c .loop-test .left)) at (c .before .loop .inv .1))
 

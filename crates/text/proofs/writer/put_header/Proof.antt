@@ -1,19 +1,11 @@
-use Prim.Native.Nat.{ℕ, _≤_, _+_, _-_}
-use mathlib.Core.Path.{_≡_, refl}
-use mathlib.Core.List.{List, [], _∷_, _++_}
-use native.Mathlib.Omega.{arith}
-use lib.ListN.{length, drop, getD}
+use Prim.Native.Nat.{ℕ}
+use mathlib.Core.List.{List, _++_}
 use Rattle.rules.specs.Chars.{bytes}
-use Rattle.rules.specs.Program.{decimal, item, line, lines, column, operationsHeader, unplacedCount, valueLines, refusedLine}
-use Rattle.rules.specs.Facts.Writing.{lines-more, lines-end, column-more, column-end}
-use Rattle.text.specs.Facts.Puts.{Rest, rest-start, rest-more, rest-room, rest-last, rest-none, put-then, put-long}
+use Rattle.rules.specs.Program.{item, operationsHeader}
+use Rattle.text.specs.Facts.Puts.{Rest, rest-start, rest-more, rest-room, rest-last}
 use borrow.Author.Needs.{needs}
 use Rattle.text.proofs.writer.put_header.Statement.{statement}
 use Rattle.text.proofs.writer.put_header.Tie as tie
-use Rattle.text.proofs.writer.put_header.Reads as reads
-use Rattle.text.proofs.writer.put_header.Lts as lts
-use Rattle.text.proofs.writer.put_bytes.Reads as put-bytes-reads
-use Rattle.text.proofs.writer.put_item.Reads as put-item-reads
 
 -- what is left to write: at first, after a call, after two, after three
 module _ (s : tie.Start) where
@@ -50,35 +42,27 @@ module _ (c : tie.After-put-bytes2) where
   after₃ : Left s₃ (c .put-bytes2 .result) (c .put-bytes2 .last .0) (item (s₃ .args .unplaced) 10)
   after₃ = rest-more {bs = bytes "unplaced "} (after₂ (c .before .before .before .before .before)) (c .put-bytes2 .ensures)
 
--- src/writer.rt:80:32
 slice-aggregate-put-bytes : tie.Need-slice-aggregate-put-bytes
 slice-aggregate-put-bytes c = search needs
 
--- src/writer.rt:80:9
 put-bytes-requires : tie.Need-put-bytes-requires
 put-bytes-requires c κs = rest-room (bytes "operations ") (rest₁ (c .before .before .before)) (begin (c .before .before .before))
 
--- src/writer.rt:81:9
 put-item-requires : tie.Need-put-item-requires
 put-item-requires c κs = rest-room (item (s₁ (c .before .before .before) .args .m) 32) (rest₂ (s₁ (c .before .before .before))) (after₁ (c .before .before .before))
 
--- src/writer.rt:82:31
 slice-aggregate-put-bytes-2 : tie.Need-slice-aggregate-put-bytes-2
 slice-aggregate-put-bytes-2 c = search needs
 
--- src/writer.rt:82:9
 put-bytes-requires-2 : tie.Need-put-bytes-requires-2
 put-bytes-requires-2 c κs = rest-room (bytes "unplaced ") (item (s₂ (c .before .before .before .before) .args .unplaced) 10) (after₂ (c .before .before .before .before))
 
--- src/writer.rt:83:5
 put-item-requires-2 : tie.Need-put-item-requires-2
 put-item-requires-2 c κs = after₃ (c .before .before .before) .room
 
--- src/writer.rt:76:1
 same-length : tie.Need-same-length
 same-length c = search needs
 
--- src/writer.rt:76:1
 returns : tie.Need-returns
 returns c = rest-last (after₃ (c .before .before .before .before .before .before)) (c .before .before .put-item2 .ensures)
 

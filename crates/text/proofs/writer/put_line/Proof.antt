@@ -1,18 +1,9 @@
-use Prim.Native.Nat.{ℕ, _≤_, _+_, _-_}
-use mathlib.Core.Path.{_≡_, refl}
-use mathlib.Core.List.{List, [], _∷_, _++_}
-use native.Mathlib.Omega.{arith}
-use lib.ListN.{length, drop, getD}
-use Rattle.rules.specs.Chars.{bytes}
-use Rattle.rules.specs.Program.{decimal, item, line, lines, column, operationsHeader, unplacedCount, valueLines, refusedLine}
-use Rattle.rules.specs.Facts.Writing.{lines-more, lines-end, column-more, column-end}
-use Rattle.text.specs.Facts.Puts.{Rest, rest-start, rest-more, rest-room, rest-last, rest-none, put-then, put-long}
+use mathlib.Core.List.{_++_}
+use Rattle.rules.specs.Program.{item, line}
+use Rattle.text.specs.Facts.Puts.{Rest, rest-start, rest-more, rest-room, rest-last}
 use borrow.Author.Needs.{needs}
 use Rattle.text.proofs.writer.put_line.Statement.{statement}
 use Rattle.text.proofs.writer.put_line.Tie as tie
-use Rattle.text.proofs.writer.put_line.Reads as reads
-use Rattle.text.proofs.writer.put_line.Lts as lts
-use Rattle.text.proofs.writer.put_item.Reads as put-item-reads
 
 -- what is left to write: at first, after a call, after two
 module _ (s : tie.Start) where
@@ -33,23 +24,22 @@ module _ (c : tie.After-put-item2) where
   after₂ : Rest (s₂ .args .at) (s₂ .args .out .now) (line (s₂ .args .e) (s₂ .args .order) (s₂ .args .mark)) (c .put-item2 .result) (c .put-item2 .last .0) (item (s₂ .args .mark) 10)
   after₂ = rest-more {bs = item (s₂ .args .order) 32} (after₁ (c .before .before .before .before)) (c .put-item2 .ensures)
 
--- src/writer.rt:56:9
 put-item-requires : tie.Need-put-item-requires
-put-item-requires c κs = rest-room (item (c .before .before .args .e) 32) (item (c .before .before .args .order) 32 ++ item (c .before .before .args .mark) 10) (begin (c .before .before))
+put-item-requires c κs =
+    let s = c .before .before in
+    rest-room (item (s .args .e) 32) (item (s .args .order) 32 ++ item (s .args .mark) 10) (begin s)
 
--- src/writer.rt:57:9
 put-item-requires-2 : tie.Need-put-item-requires-2
-put-item-requires-2 c κs = rest-room (item (s₁ (c .before .before .before) .args .order) 32) (item (s₁ (c .before .before .before) .args .mark) 10) (after₁ (c .before .before .before))
+put-item-requires-2 c κs =
+    let a = c .before .before .before in
+    rest-room (item (s₁ a .args .order) 32) (item (s₁ a .args .mark) 10) (after₁ a)
 
--- src/writer.rt:58:5
 put-item-requires-3 : tie.Need-put-item-requires-3
 put-item-requires-3 c κs = after₂ (c .before .before .before) .room
 
--- src/writer.rt:52:1
 same-length : tie.Need-same-length
 same-length c = search needs
 
--- src/writer.rt:52:1
 returns : tie.Need-returns
 returns c = rest-last (after₂ (c .before .before .before .before .before .before)) (c .before .before .put-item3 .ensures)
 

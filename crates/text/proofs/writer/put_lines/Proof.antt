@@ -1,18 +1,13 @@
 use Prim.Native.Nat.{ℕ, _≤_, _+_, _-_}
-use mathlib.Core.Path.{_≡_, refl}
-use mathlib.Core.List.{List, [], _∷_, _++_}
+use mathlib.Core.List.{List, _++_}
 use native.Mathlib.Omega.{arith}
 use lib.ListN.{length, drop, getD}
-use Rattle.rules.specs.Chars.{bytes}
-use Rattle.rules.specs.Program.{decimal, item, line, lines, column, operationsHeader, unplacedCount, valueLines, refusedLine}
-use Rattle.rules.specs.Facts.Writing.{lines-more, lines-end, column-more, column-end}
-use Rattle.text.specs.Facts.Puts.{Rest, rest-start, rest-more, rest-room, rest-last, rest-none, put-then, put-long}
+use Rattle.rules.specs.Program.{line, lines}
+use Rattle.rules.specs.Facts.Writing.{lines-more, lines-end}
+use Rattle.text.specs.Facts.Puts.{Rest, rest-start, rest-more, rest-room, rest-none}
 use borrow.Author.Needs.{needs}
 use Rattle.text.proofs.writer.put_lines.Statement.{statement}
 use Rattle.text.proofs.writer.put_lines.Tie as tie
-use Rattle.text.proofs.writer.put_lines.Reads as reads
-use Rattle.text.proofs.writer.put_lines.Lts as lts
-use Rattle.text.proofs.writer.put_line.Reads as put-line-reads
 
 abbrev Inv-loop : tie.InvT-loop
 Inv-loop out₀ at orders marks p₀ i₀ out p i = (i ≤ length orders) × (Rest at out₀ (lines 0 orders marks) p out (lines i (drop i orders) (drop i marks)))
@@ -43,51 +38,39 @@ module _ (c : tie.In-loop Inv-loop μ-loop) where
   turn : Rest (s .args .at) (s .args .out .now) (lines 0 os ms) (l .loop .p) (l .loop .out) (this ++ lines (i + 1) (drop (i + 1) os) (drop (i + 1) ms))
   turn = rw (lines-more os i ms (c .loop-test .taken) (omega (arith, s .pre .1))) at (l .loop .inv .1)
 
--- src/writer.rt:69:5
 loop-holds : tie.Need-loop-holds Inv-loop μ-loop
 loop-holds c = (omega arith, rest-start _ _ _ (c .before .before .before .pre .0))
 
--- src/writer.rt:70:30
 cast-put-line : tie.Need-cast-put-line Inv-loop μ-loop
 cast-put-line c = search needs
 
--- src/writer.rt:70:40
 mul-put-line : tie.Need-mul-put-line Inv-loop μ-loop
 mul-put-line c = search needs
 
--- src/writer.rt:70:40
 shared-slice-read-put-line : tie.Need-shared-slice-read-put-line Inv-loop μ-loop
 shared-slice-read-put-line c = search needs
 
--- src/writer.rt:70:51
 mul-put-line-2 : tie.Need-mul-put-line-2 Inv-loop μ-loop
 mul-put-line-2 c = search needs
 
--- src/writer.rt:70:51
 shared-slice-read-put-line-2 : tie.Need-shared-slice-read-put-line-2 Inv-loop μ-loop
 shared-slice-read-put-line-2 c = search needs
 
--- src/writer.rt:70:9
 put-line-requires : tie.Need-put-line-requires Inv-loop μ-loop
 put-line-requires c κs = rest-room (this (c .before .before .before)) _ (turn (c .before .before .before))
 
--- src/writer.rt:71:9
 add-i : tie.Need-add-i Inv-loop μ-loop
 add-i c = search needs
 
--- src/writer.rt:69:5
 loop-less : tie.Need-loop-less Inv-loop μ-loop
 loop-less c = search needs
 
--- src/writer.rt:69:5
 loop-again : tie.Need-loop-again Inv-loop μ-loop
 loop-again c = (omega arith, rest-more {bs = this (c .before .before .before .before .before .before)} (turn (c .before .before .before .before .before .before)) (c .before .before .put-line .ensures))
 
--- src/writer.rt:62:1
 same-length : tie.Need-same-length Inv-loop μ-loop
 same-length c = c .before .loop .inv .1 .long
 
--- src/writer.rt:62:1
 returns : tie.Need-returns Inv-loop μ-loop
 returns c =
     let a = c .before .before .before .before .before .args in

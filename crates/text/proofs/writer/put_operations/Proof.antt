@@ -1,20 +1,12 @@
-use Prim.Native.Nat.{ℕ, _≤_, _+_, _-_}
-use mathlib.Core.Path.{_≡_, refl}
-use mathlib.Core.List.{List, [], _∷_, _++_}
-use native.Mathlib.Omega.{arith}
-use lib.ListN.{length, drop, getD}
-use Rattle.rules.specs.Chars.{bytes}
-use Rattle.rules.specs.Program.{decimal, item, line, lines, column, operationsHeader, unplacedCount, valueLines, refusedLine}
+use Prim.Native.Nat.{ℕ}
+use mathlib.Core.List.{List, _++_}
+use lib.ListN.{length}
+use Rattle.rules.specs.Program.{lines, operationsHeader}
 use Rattle.text.specs.Writing.{operations}
-use Rattle.text.specs.Facts.Puts.{operations-start, Rest, rest-start, rest-more, rest-room, rest-last, rest-none, put-then, put-long}
+use Rattle.text.specs.Facts.Puts.{operations-start, Rest, rest-more, rest-room, rest-last}
 use borrow.Author.Needs.{needs}
 use Rattle.text.proofs.writer.put_operations.Statement.{statement}
 use Rattle.text.proofs.writer.put_operations.Tie as tie
-use Rattle.text.proofs.writer.put_operations.Reads as reads
-use Rattle.text.proofs.writer.put_operations.Lts as lts
-use Rattle.text.proofs.writer.count_unplaced.Reads as count-unplaced-reads
-use Rattle.text.proofs.writer.put_header.Reads as put-header-reads
-use Rattle.text.proofs.writer.put_lines.Reads as put-lines-reads
 
 module _ (s : tie.Start) where
   abbrev os : List ℕ
@@ -41,27 +33,21 @@ module _ (c : tie.After-put-header) where
   after : Rest (s .args .at) (s .args .out .now) (operations (os s) (ms s)) (c .put-header .result) (c .put-header .last .0) (lines 0 (os s) (ms s))
   after = rest-more {bs = header (c .before .before)} (begin (c .before .before)) (c .put-header .ensures)
 
--- src/writer.rt:108:9
 count-unplaced-requires : tie.Need-count-unplaced-requires
 count-unplaced-requires c κs = search needs
 
--- src/writer.rt:109:33
 cast-put-header : tie.Need-cast-put-header
 cast-put-header c = search needs
 
--- src/writer.rt:109:9
 put-header-requires : tie.Need-put-header-requires
 put-header-requires c κs = rest-room (header (c .before)) (lines 0 (os (start (c .before))) (ms (start (c .before)))) (begin (c .before))
 
--- src/writer.rt:110:5
 put-lines-requires : tie.Need-put-lines-requires
 put-lines-requires c κs = (after (c .before .before .before) .room, start (c .before .before .before .before .before) .pre .1)
 
--- src/writer.rt:103:1
 same-length : tie.Need-same-length
 same-length c = search needs
 
--- src/writer.rt:103:1
 returns : tie.Need-returns
 returns c = rest-last (after (c .before .before .before .before .before .before)) (c .before .before .put-lines .ensures)
 

@@ -1,20 +1,12 @@
-use Prim.Native.Nat.{ℕ, _≤_, _+_, _-_}
-use mathlib.Core.Path.{_≡_, refl}
-use mathlib.Core.List.{List, [], _∷_, _++_}
-use native.Mathlib.Omega.{arith}
-use lib.ListN.{length, drop, getD}
+use Prim.Native.Nat.{ℕ}
+use mathlib.Core.List.{List, _++_}
+use lib.ListN.{length}
 use Rattle.rules.specs.Chars.{bytes}
-use Rattle.rules.specs.Program.{decimal, item, line, lines, column, operationsHeader, unplacedCount, valueLines, refusedLine}
-use Rattle.text.specs.Writing.{operations}
-use Rattle.text.specs.Facts.Puts.{Rest, rest-start, rest-more, rest-room, rest-last, rest-none, put-then, put-long}
+use Rattle.rules.specs.Program.{item, column, valueLines}
+use Rattle.text.specs.Facts.Puts.{Rest, rest-start, rest-more, rest-room, rest-last}
 use borrow.Author.Needs.{needs}
 use Rattle.text.proofs.writer.put_values.Statement.{statement}
 use Rattle.text.proofs.writer.put_values.Tie as tie
-use Rattle.text.proofs.writer.put_values.Reads as reads
-use Rattle.text.proofs.writer.put_values.Lts as lts
-use Rattle.text.proofs.writer.put_bytes.Reads as put-bytes-reads
-use Rattle.text.proofs.writer.put_column.Reads as put-column-reads
-use Rattle.text.proofs.writer.put_item.Reads as put-item-reads
 
 -- what is left to write: at first, after a call, after two
 module _ (s : tie.Start) where
@@ -44,31 +36,24 @@ module _ (c : tie.After-put-item) where
   after₂ : Left s₂ (c .put-item .result) (c .put-item .last .0) (column (vs s₂))
   after₂ = rest-more {bs = item (length (vs s₂)) 10} (after₁ (c .before .before .before .before)) (c .put-item .ensures)
 
--- src/writer.rt:133:32
 slice-aggregate-put-bytes : tie.Need-slice-aggregate-put-bytes
 slice-aggregate-put-bytes c = search needs
 
--- src/writer.rt:133:9
 put-bytes-requires : tie.Need-put-bytes-requires
 put-bytes-requires c κs = rest-room (bytes "values ") (rest₁ (c .before .before .before .before)) (begin (c .before .before .before .before))
 
--- src/writer.rt:134:30
 cast-put-item : tie.Need-cast-put-item
 cast-put-item c = search needs
 
--- src/writer.rt:134:9
 put-item-requires : tie.Need-put-item-requires
 put-item-requires c κs = rest-room (item (length (vs (s₁ (c .before .before .before)))) 10) (column (vs (s₁ (c .before .before .before)))) (after₁ (c .before .before .before))
 
--- src/writer.rt:135:5
 put-column-requires : tie.Need-put-column-requires
 put-column-requires c κs = after₂ (c .before .before .before) .room
 
--- src/writer.rt:128:1
 same-length : tie.Need-same-length
 same-length c = search needs
 
--- src/writer.rt:128:1
 returns : tie.Need-returns
 returns c = rest-last (after₂ (c .before .before .before .before .before .before)) (c .before .before .put-column .ensures)
 
