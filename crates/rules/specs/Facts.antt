@@ -29,10 +29,10 @@ pub mod Standing
 pub mod Incident
 pub mod WalkTells
 pub mod Worked
+pub mod WorkedText
 pub mod TextWords
 pub mod TextSections
 pub mod Writing
 pub mod NumberAgain
 pub mod Output
 pub mod OutputLong
-pub mod WorkedText

@@ -78,7 +78,7 @@ fn word_as(word: &[u8], end: usize) -> Number
 }
 
 // What stands at a place of the text, after separators.
-pub fn read_number(text: &[u8], at: usize) -> Number
+fn read_number(text: &[u8], at: usize) -> Number
     ensures { λ r. ⌜ r ≡ numberAt (now (text .entry)) at ⌝ }
 {
     let start = skip(text, at);
@@ -111,7 +111,7 @@ fn read_numbers(text: &[u8], at: usize, count: usize, out: &mut [u32]) -> Sectio
 }
 
 // A section: a count, at most the limit, and so many numbers.
-pub fn read_section(text: &[u8], at: usize, limit: usize, out: &mut [u32]) -> Section
+fn read_section(text: &[u8], at: usize, limit: usize, out: &mut [u32]) -> Section
     requires { ⌜ limit ≤ length (now out) ⌝ }
     ensures { λ r. ⌜ ReadNumbers (sectionAt limit (now (text .entry)) at) (now (out .entry)) (now (out .exit)) r ⌝ }
 {
