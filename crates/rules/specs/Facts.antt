@@ -36,3 +36,10 @@ pub mod Acyclic
 pub mod Traps
 pub mod Determined
 pub mod WorkedCalls
+pub mod WorkedText
+pub mod TextWords
+pub mod TextSections
+pub mod Writing
+pub mod NumberAgain
+pub mod Output
+pub mod OutputLong
