@@ -22,13 +22,16 @@ pub mod Stores
 pub mod Counts
 pub mod Segments
 pub mod Placing
+pub mod Rows
 pub mod Tables
 pub mod Left
 pub mod Kahn
 pub mod Standing
 pub mod Incident
+pub mod ConverseTable
 pub mod WalkTells
 pub mod Worked
 pub mod Refusing
+pub mod Rooms
 pub mod Acyclic
 pub mod Traps
