@@ -3,6 +3,8 @@ pub mod Incidence
 pub mod Table
 pub mod Walk
 pub mod Loops
+pub mod Rows
+pub mod Rooms
 pub mod IncidenceTable
 pub mod Checks
 pub mod Acyclic
