@@ -31,3 +31,5 @@ pub mod WalkTells
 pub mod Worked
 pub mod Refusing
 pub mod Acyclic
+pub mod ArrowInputs
+pub mod Injective

@@ -1,0 +1,2 @@
+// Maps between two drawings.
+pub mod inputs;
