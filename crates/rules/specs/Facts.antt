@@ -33,3 +33,5 @@ pub mod Refusing
 pub mod Acyclic
 pub mod ArrowInputs
 pub mod Injective
+pub mod SameLists
+pub mod Parts
