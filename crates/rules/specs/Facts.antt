@@ -35,3 +35,4 @@ pub mod ArrowInputs
 pub mod Injective
 pub mod SameLists
 pub mod Parts
+pub mod Carried
