@@ -46,3 +46,8 @@ pub mod Writing
 pub mod NumberAgain
 pub mod Output
 pub mod OutputLong
+pub mod ArrowInputs
+pub mod Injective
+pub mod SameLists
+pub mod Parts
+pub mod Carried

@@ -10,3 +10,5 @@ pub mod Checks
 pub mod Acyclic
 pub mod Layering
 pub mod LayerSort
+pub mod Decides
+pub mod Arrow
