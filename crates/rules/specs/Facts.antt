@@ -30,6 +30,9 @@ pub mod Incident
 pub mod WalkTells
 pub mod Layers
 pub mod LayerSort
+pub mod Rooms
+pub mod LayerCalls
+pub mod Lookup
 pub mod Worked
 pub mod Refusing
 pub mod Acyclic
