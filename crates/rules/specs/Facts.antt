@@ -32,9 +32,12 @@ pub mod ConverseTable
 pub mod WalkTells
 pub mod Layers
 pub mod LayerSort
+pub mod Rooms
+pub mod RowsCalls
+pub mod LayerCalls
+pub mod Lookup
 pub mod Worked
 pub mod Refusing
-pub mod Rooms
 pub mod Acyclic
 pub mod Traps
 pub mod Determined

@@ -12,3 +12,4 @@ pub mod Layering
 pub mod LayerSort
 pub mod Decides
 pub mod Arrow
+pub mod LayerCalls

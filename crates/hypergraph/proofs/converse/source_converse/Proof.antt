@@ -11,7 +11,7 @@ use Rattle.hypergraph.proofs.check.check_drawing.Reads as check-drawing
 use Rattle.hypergraph.proofs.check.workspace_need.Reads as workspace-need-reads
 use Rattle.hypergraph.proofs.converse.write_converse.Reads as write-converse-reads
 use Rattle.rules.specs.Calls.{drawingRefusal}
-use Rattle.rules.specs.Facts.Rooms.{rows-faulty, rows-fine}
+use Rattle.rules.specs.Facts.RowsCalls.{rows-faulty, rows-fine}
 use Rattle.rules.specs.Drawing.{Drawing, Accepted, drawing}
 use Rattle.rules.specs.Facts.Incident.{fits-listed}
 use Rattle.rules.specs.Facts.Refusing.{fine-none, faulty-number}

@@ -10,7 +10,7 @@ use Rattle.hypergraph.proofs.converse.write_converse.Reads as reads
 use Rattle.hypergraph.proofs.converse.write_converse.Lts as lts
 use Rattle.array.proofs.bincount.Reads as bincount-reads
 use Rattle.hypergraph.proofs.converse.write_entries.Reads as write-entries-reads
-use Rattle.rules.specs.Facts.Rooms.{rows-short, rooms-three, rows-done}
+use Rattle.rules.specs.Facts.RowsCalls.{rows-short, rooms-three, rows-done}
 use Rattle.rules.specs.Facts.ConverseTable.{counts-lengths}
 
 -- the rooms fit

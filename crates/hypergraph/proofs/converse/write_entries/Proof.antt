@@ -13,7 +13,7 @@ use Rattle.array.proofs.copy.Reads as copy-reads
 use Rattle.array.proofs.fill.Reads as fill-reads
 use Rattle.indexed_coproduct.proofs.converse.converse.Reads as converse-reads
 use Rattle.rules.specs.Facts.ConverseTable.{entries-put}
-use Rattle.rules.specs.Facts.Rooms.{front-cleared}
+use Rattle.rules.specs.Facts.RowsCalls.{front-cleared}
 
 -- the table stands in front of the workspace
 module _ (c : tie.After-converse) where
