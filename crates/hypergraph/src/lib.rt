@@ -1,4 +1,5 @@
-// Drawings: their checks, their converses, and the table of their incidence graph.
+// Drawings: their checks, converses and adjacencies, and the table of their incidence graph.
+pub mod adjacency;
 pub mod check;
 pub mod converse;
 pub mod incidence;

@@ -29,6 +29,7 @@ pub mod Kahn
 pub mod Standing
 pub mod Incident
 pub mod ConverseTable
+pub mod Sizes
 pub mod WalkTells
 pub mod Layers
 pub mod LayerSort

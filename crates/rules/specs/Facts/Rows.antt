@@ -25,6 +25,10 @@ concat-append g (a ∷ l) r = rw (concat-append g l r) (sym (append-assoc (g a) 
 pub concat-one : (g : ℕ → List ℕ) (a : ℕ) → concat (map g (a ∷ [])) ≡ g a
 concat-one g a = append-nil (g a)
 
+pub map-same : (f g : ℕ → ℕ) (l : List ℕ) → ((v : ℕ) → f v ≡ g v) → map f l ≡ map g l
+map-same f g [] h = refl
+map-same f g (a ∷ l) h = rw (h a, map-same f g l h)
+
 -- one row more
 module _ (rows : ℕ → List ℕ) where
   pub entries-suc : (k : ℕ) → rowEntries rows (suc k) ≡ rowEntries rows k ++ rows k

@@ -4,7 +4,7 @@ use mathlib.Core.Bool.{Bool, true, false, cond}
 use mathlib.Core.List.{List, [], _∷_, _++_, map}
 use lib.ListN.{drop, replicate}
 use lib.Dec.{eqb, ltb}
-use Rattle.rules.specs.Lists.{range}
+use Rattle.rules.specs.Lists.{sum, range}
 
 abbrev pub bit : Bool → ℕ
 bit true = 1
@@ -22,6 +22,10 @@ below v (a ∷ l) = bit (ltb a v) + below v l
 -- how often each of 0 .. n - 1 stands in a list
 abbrev pub counts : ℕ → List ℕ → List ℕ
 counts n l = map (λ v. count v l) (range n)
+
+-- how often the entries of a list stand in another, added up
+abbrev pub listings : List ℕ → List ℕ → ℕ
+listings l k = sum (map (λ v. count v l) k)
 
 -- the sum of the products of two lists
 unfoldable pub products : List ℕ → List ℕ → ℕ
