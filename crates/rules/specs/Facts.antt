@@ -32,3 +32,6 @@ pub mod Worked
 pub mod Refusing
 pub mod Acyclic
 pub mod Traps
+pub mod Search
+pub mod Roads
+pub mod Searching

@@ -7,3 +7,5 @@ pub mod IncidenceTable
 pub mod Checks
 pub mod Acyclic
 pub mod Layering
+pub mod Search
+pub mod Selected
