@@ -5,7 +5,7 @@
 use crate::Layer;
 ghost use mathlib.Core.List.{[], _∷_};
 ghost use mathlib.Core.Path.{_≡_};
-ghost use Prim.Native.Nat.{ℕ, _-_, _<_, _≤_};
+ghost use Prim.Native.Nat.{ℕ, _<_, _≤_};
 ghost use lib.ListN.{length};
 ghost use Rattle.convexity.specs.Layers.{rowsOf, tableOf};
 ghost use Rattle.rules.specs.Lists.{_∈_};

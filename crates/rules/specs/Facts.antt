@@ -35,3 +35,6 @@ pub mod Traps
 pub mod Search
 pub mod Roads
 pub mod Searching
+pub mod Unselected
+pub mod TwoTables
+pub mod RoadDecides
