@@ -1,3 +1,4 @@
-// Drawings: their checks, and the table of their incidence graph.
+// Drawings: their checks, their converses, and the table of their incidence graph.
 pub mod check;
+pub mod converse;
 pub mod incidence;

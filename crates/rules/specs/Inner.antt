@@ -3,9 +3,14 @@ pub mod Incidence
 pub mod Table
 pub mod Walk
 pub mod Loops
+pub mod Rows
+pub mod Rooms
 pub mod IncidenceTable
 pub mod Checks
 pub mod Acyclic
 pub mod Layering
 pub mod Search
 pub mod Selected
+pub mod LayerSort
+pub mod Decides
+pub mod Arrow

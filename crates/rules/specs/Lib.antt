@@ -11,6 +11,8 @@ pub mod Chars
 pub mod Text
 pub mod Program
 pub mod Promises
+pub mod Faces
 pub mod Worked
+pub mod WorkedCalls
 pub mod Inner
 pub mod Facts

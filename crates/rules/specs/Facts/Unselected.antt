@@ -2,14 +2,14 @@
 use Prim.Native.Nat.{ℕ, zero, suc, _+_, _-_, _<_, _≤_}
 use mathlib.Core.Bool.{Bool, true, false, cond}
 use mathlib.Core.Path.{_≡_, refl, sym, ap, _∙_}
-use mathlib.Core.List.{List, [], _∷_, _++_, map, append-assoc, append-nil, List·Memᴰ·head, List·Memᴰ·tail}
+use mathlib.Core.List.{List, [], _∷_, _++_, append-assoc, append-nil, List·Memᴰ·head, List·Memᴰ·tail}
 use native.Mathlib.Omega.{arith}
 use native.Mathlib.Numerals.{add-one}
 use native.Mathlib.Decide.{decLt, ℕ-discrete}
 use lib.ListN.{length, getD, take, drop, set, length-set, length-append, List·getD-append, List·getD-eq-default}
-use lib.Seq.{take-nil, take-suc, take-suc-set, drop-set-lt, take-take, drop-drop, getD-take, getD-set-same, getD-set-other, take-append-le, drop-append-le, drop-append-seam, take-append-seam, take-set-le, length-take-le, getD-drop}
+use lib.Seq.{take-nil, take-suc, take-suc-set, drop-set-lt, take-take, drop-drop, getD-take, getD-set-same, getD-set-other, take-append-le, drop-append-le, take-set-le, length-take-le, getD-drop}
 use borrow.Author.Tests.{ne-eqb}
-use Rattle.rules.specs.Lists.{_∈_, seg, those, rowEntries, concat, range}
+use Rattle.rules.specs.Lists.{_∈_, seg, those, rowEntries}
 use Rattle.rules.specs.Inner.Selected.{Rowed, Kept, clear, Flags, Roomy, Filtering, Filtered}
 use Rattle.rules.specs.Facts.Segments.{seg-in-take, seg-at, seg-length, seg-set-low, filled-at, filled-length, back, back-in, back-length}
 use Rattle.rules.specs.Inner.Search.{Row, otherTable}
@@ -19,6 +19,7 @@ use Rattle.rules.specs.Inner.Loops.{Counted}
 use Rattle.rules.specs.Inner.Words.{filled, count}
 use Rattle.rules.specs.Facts.Counts.{count-above}
 use Rattle.rules.specs.Inner.Walk.{Laid}
+use Rattle.rules.specs.Facts.Rows.{entries-le, entries-next, row-in, entries-suc}
 
 -- tests of a list's entries
 those-append : (p : ℕ → Bool) (l r : List ℕ) → those p (l ++ r) ≡ those p l ++ those p r
@@ -118,39 +119,6 @@ drop-take (suc a) (suc q) (x ∷ l) = let e : suc q - suc a ≡ q - a = omega ar
 
 pub seg-seg : (b m a len : ℕ) (ws : List ℕ) → a + len ≤ m → seg a len (seg b m ws) ≡ seg (b + a) len ws
 seg-seg b m a len ws h = seg-in-take a len m (drop b ws) h ∙ ap (take len) (drop-drop a b ws)
-
--- rows one behind the other
-module _ (rows : ℕ → List ℕ) where
-  concat-snoc : (l : List ℕ) (a : ℕ) → concat (map rows (l ++ (a ∷ []))) ≡ concat (map rows l) ++ rows a
-  concat-snoc [] a = append-nil (rows a)
-  concat-snoc (b ∷ l) a = rw (concat-snoc l a) (sym (append-assoc (rows b) (concat (map rows l)) (rows a)))
-
-  entries-suc : (k : ℕ) → rowEntries rows (suc k) ≡ rowEntries rows k ++ rows k
-  entries-suc k = concat-snoc (range k) k
-
-  entries-next : (k : ℕ) → length (rowEntries rows (k + 1)) ≡ length (rowEntries rows k) + length (rows k)
-  entries-next k = rw (add-one k, entries-suc k) (length-append (rowEntries rows k) (rows k))
-
-  entries-split : (i c : ℕ) → (rest : List ℕ) × (rowEntries rows (i + c) ≡ rowEntries rows i ++ rest)
-  entries-split i zero = let e : i + 0 ≡ i = omega arith in rw e ([], sym (append-nil (rowEntries rows i)))
-  entries-split i (suc c) =
-      let e : i + suc c ≡ suc (i + c) = omega arith in
-      let (rest, q) = entries-split i c in
-      rw e (rest ++ rows (i + c), entries-suc (i + c) ∙ rw q (append-assoc (rowEntries rows i) rest (rows (i + c))))
-
-  entries-le : (i k : ℕ) → i ≤ k → length (rowEntries rows i) ≤ length (rowEntries rows k)
-  entries-le i k h =
-      let e : i + (k - i) ≡ k = omega arith in
-      let (rest, q) = entries-split i (k - i) in
-      let l : length (rowEntries rows (i + (k - i))) ≡ length (rowEntries rows i) + length rest = rw q (length-append (rowEntries rows i) rest) in
-      omega (arith, rw e at l)
-
-  -- a row stands behind those before it
-  row-in : (i k : ℕ) → i < k → seg (length (rowEntries rows i)) (length (rows i)) (rowEntries rows k) ≡ rows i
-  row-in i k h =
-      let e : suc i + (k - suc i) ≡ k = omega arith in
-      let (rest, q) = entries-split (suc i) (k - suc i) in
-      rw (rw e at q, entries-suc i, append-assoc (rowEntries rows i) (rows i) rest, drop-append-seam (rowEntries rows i) (rows i ++ rest)) (take-append-seam (rows i) rest)
 
 -- the table row by row
 module _ {rows : ℕ → List ℕ} {n b : ℕ} where

@@ -1,0 +1,3 @@
+// Maps between two drawings.
+pub mod inputs;
+pub mod naturality;

@@ -1,0 +1,5 @@
+//! Glue: the array traits and their one backend.
+mod traits;
+pub mod vec;
+
+pub use traits::*;

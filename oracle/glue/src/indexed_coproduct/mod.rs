@@ -1,0 +1,5 @@
+//! Glue: indexed coproducts, and the walks over their segments.
+mod arrow;
+mod segments;
+
+pub use arrow::*;

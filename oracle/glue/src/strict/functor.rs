@@ -1,0 +1,1 @@
+//! Glue: named by the published `strict/mod.rs`, and needed by nothing here.
