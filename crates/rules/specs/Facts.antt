@@ -57,3 +57,5 @@ pub mod Injective
 pub mod SameLists
 pub mod Parts
 pub mod Carried
+pub mod Verdicts
+pub mod Monomorphism
