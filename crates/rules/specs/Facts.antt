@@ -59,3 +59,4 @@ pub mod Parts
 pub mod Carried
 pub mod Verdicts
 pub mod Monomorphism
+pub mod Demand3
