@@ -1,4 +1,5 @@
 // Convexity: the two tables of the walk, the walk, and whether there is a road.
+pub mod convex;
 pub mod road;
 pub mod tables;
 pub mod walk;

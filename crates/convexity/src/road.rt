@@ -8,7 +8,9 @@ ghost use lib.ListN.{length};
 ghost use Rattle.rules.specs.Drawing.{Accepted, drawing, nodeCount};
 ghost use Rattle.rules.specs.Lists.{_∈_};
 ghost use Rattle.rules.specs.Refusals.{workspaceNeed};
-ghost use Rattle.rules.specs.Inner.Selected.{SelectedOps, AnyMarked, RoadDecided};
+ghost use Rattle.rules.specs.Maps.{Road};
+ghost use Rattle.rules.specs.Inner.Decides.{Decides};
+ghost use Rattle.rules.specs.Inner.Selected.{SelectedOps, AnyMarked};
 
 // Whether some entry of a list has a mark.
 fn any_marked(marks: &[u32], list: &[u32]) -> bool
@@ -41,7 +43,7 @@ pub fn has_road(
     requires { ⌜ Accepted (drawing (now w) (now x) (now sl) (now sv) (now tl) (now tv)) ⌝ }
     requires { ⌜ ((v : ℕ) → v ∈ now fw → v < nodeCount (drawing (now w) (now x) (now sl) (now sv) (now tl) (now tv))) × SelectedOps (drawing (now w) (now x) (now sl) (now sv) (now tl) (now tv)) (now fx) ⌝ }
     requires { ⌜ length (now ws) ≡ workspaceNeed (drawing (now w) (now x) (now sl) (now sv) (now tl) (now tv)) ⌝ }
-    ensures { λ r. ⌜ RoadDecided (drawing (now (w .entry)) (now (x .entry)) (now (sl .entry)) (now (sv .entry)) (now (tl .entry)) (now (tv .entry))) (now (fw .entry)) (now (fx .entry)) (now (ws .exit)) r ⌝ }
+    ensures { λ r. ⌜ Decides (Road (drawing (now (w .entry)) (now (x .entry)) (now (sl .entry)) (now (sv .entry)) (now (tl .entry)) (now (tv .entry))) (now (fw .entry)) (now (fx .entry))) (workspaceNeed (drawing (now (w .entry)) (now (x .entry)) (now (sl .entry)) (now (sv .entry)) (now (tl .entry)) (now (tv .entry)))) (now (ws .exit)) r ⌝ }
 {
     let n = w.len();
     let k = n + x.len();

@@ -60,3 +60,4 @@ pub mod Carried
 pub mod Verdicts
 pub mod Monomorphism
 pub mod Demand3
+pub mod ConvexDecides

@@ -9,7 +9,7 @@ use native.Mathlib.Numerals.{add-one}
 use lib.ListN.{length, getD, take, replicate, drop-of-length-le}
 use lib.Seq.{take-suc, take-all}
 use Rattle.rules.specs.Lists.{_∈_, seg}
-use Rattle.rules.specs.Inner.Selected.{AnyMarked, TwoTables, unselected, marksFrom, RoadDecided}
+use Rattle.rules.specs.Inner.Selected.{AnyMarked, TwoTables, unselected, marksFrom}
 use Rattle.rules.specs.Drawing.{Drawing, Accepted, nodeCount}
 use Rattle.rules.specs.Facts.Tests.{not-both}
 use Rattle.rules.specs.Facts.Member.{getD-∈}
@@ -24,6 +24,8 @@ use Rattle.rules.specs.Facts.Tables.{tails}
 use Rattle.rules.specs.Inner.Words.{filled}
 use Rattle.rules.specs.Facts.Incident.{incident-low}
 use Rattle.rules.specs.Facts.Roads.{those-e, Ways, reached-road, road-reached}
+use Rattle.rules.specs.Inner.Decides.{Decides}
+use Rattle.rules.specs.Maps.{Road}
 
 -- entries of a list are tested one by one: none has a mark so far
 abbrev pub NoneMarked : List ℕ → List ℕ → ℕ → Type 0
@@ -76,12 +78,12 @@ module _ {d : Drawing} {x ws : List ℕ} (a : Accepted d) (t : TwoTables d x ws)
   -- and were walked
   pub road-decided : (w : List ℕ) (low : (u : ℕ) → u ∈ w → u < n) (ws₂ ws' : List ℕ) (p : ℕ) (r : Bool) → length ws₂ ≡ workspaceNeed d
       → Found (successors k (fullTable b ws)) (successors n (otherTable b c ws)) w (marksAt k c ws₂) → p ≡ k → AnyMarked (seg c p ws₂) w r → ws' ≡ filled (length ws₂) 0 ws₂
-      → RoadDecided d w x ws' r
+      → Decides (Road d w x) (workspaceNeed d) ws' r
   road-decided w low ws₂ ws' p r long f e any cleared =
       record {
         yes = λ q. let (v, m, some) = any .yes q in reached-road ways v m ((f .marks v) .0 (rw e at some));
         no = λ q road. omega (arith, rw e at (any .no q (road .enter) (road .enters)), (f .marks (road .enter)) .1 (road-reached ways road));
-        clear' = cleared ∙ rw (drop-of-length-le ws₂ {i = length ws₂} (omega arith), long) (append-nil (replicate (workspaceNeed d) 0));
+        clear = cleared ∙ rw (drop-of-length-le ws₂ {i = length ws₂} (omega arith), long) (append-nil (replicate (workspaceNeed d) 0));
       }
     where
       ways : Ways d w x (fullTable b ws) (otherTable b c ws)

@@ -3,12 +3,10 @@ use Prim.Native.Nat.{ℕ, _+_, _-_, _<_, _≤_}
 use mathlib.Core.Bool.{Bool, true, false, not}
 use mathlib.Core.Path.{_≡_}
 use mathlib.Core.List.{List, _++_}
-use lib.ListN.{length, getD, take, drop, replicate}
+use lib.ListN.{length, getD, take, drop}
 use lib.Dec.{eqb}
 use Rattle.rules.specs.Lists.{_∈_, has, seg, those, rowEntries}
 use Rattle.rules.specs.Drawing.{Drawing, nodeCount, opCount, mostItems}
-use Rattle.rules.specs.Maps.{Road}
-use Rattle.rules.specs.Refusals.{workspaceNeed}
 use Rattle.rules.specs.Inner.Incidence.{incidence}
 use Rattle.rules.specs.Inner.IncidenceTable.{Incident, tableLength}
 use Rattle.rules.specs.Inner.Search.{Row, fullTable, otherTable}
@@ -84,9 +82,3 @@ pub record TwoTables (d : Drawing) (x ws : List ℕ) : Type 0 where
 pub record AnyMarked (M l : List ℕ) (r : Bool) : Type 0 where
   pub yes : r ≡ true → (v : ℕ) × (v ∈ l) × (0 < getD M v 0)
   pub no : r ≡ false → (v : ℕ) → v ∈ l → getD M v 0 ≡ 0
-
--- the decision whether there is a road, in a workspace of W words, whatever they hold
-pub record RoadDecided (d : Drawing) (w x ws' : List ℕ) (r : Bool) : Type 0 where
-  pub yes : r ≡ true → Road d w x
-  pub no : r ≡ false → ¬ Road d w x
-  pub clear' : ws' ≡ replicate (workspaceNeed d) 0
