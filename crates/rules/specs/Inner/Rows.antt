@@ -57,5 +57,6 @@ pub record PutRows (rows : ℕ → List ℕ) (k : ℕ) (lens lens' vals vals' : 
 
 -- The front of a workspace: the table of the sources' converse, then where each operation's targets start.
 pub record Tables (n : ℕ) (sl sv tl ws : List ℕ) : Type 0 where
+  pub fits : n + 1 + length sv + (length tl + 1) ≤ length ws
   pub sources : Tabled (converse sl sv) n (take (n + 1) ws) (seg (n + 1) (length sv) ws)
   pub targets : Starts tl (seg (n + 1 + length sv) (length tl + 1) ws)
