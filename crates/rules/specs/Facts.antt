@@ -30,6 +30,7 @@ pub mod Standing
 pub mod Incident
 pub mod ConverseTable
 pub mod Sizes
+pub mod Flat
 pub mod WalkTells
 pub mod Layers
 pub mod LayerSort
