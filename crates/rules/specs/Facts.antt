@@ -31,3 +31,4 @@ pub mod WalkTells
 pub mod Worked
 pub mod Refusing
 pub mod Acyclic
+pub mod Operating
