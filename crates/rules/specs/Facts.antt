@@ -32,3 +32,4 @@ pub mod Worked
 pub mod Refusing
 pub mod Acyclic
 pub mod Operating
+pub mod Evaluating
