@@ -28,6 +28,8 @@ pub mod Kahn
 pub mod Standing
 pub mod Incident
 pub mod WalkTells
+pub mod Layers
+pub mod LayerSort
 pub mod Worked
 pub mod Refusing
 pub mod Acyclic

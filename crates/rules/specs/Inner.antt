@@ -8,3 +8,4 @@ pub mod Checks
 pub mod Acyclic
 pub mod Layering
 pub mod Operating
+pub mod LayerSort
