@@ -35,3 +35,4 @@ pub mod Refusing
 pub mod Acyclic
 pub mod Operating
 pub mod Evaluating
+pub mod Running

@@ -8,4 +8,5 @@ pub mod Checks
 pub mod Acyclic
 pub mod Layering
 pub mod Operating
+pub mod Running
 pub mod LayerSort
