@@ -1,5 +1,5 @@
 -- Evaluation in a workspace: the tables stand, each operation reads into its own part of the room, and a layer's outputs are stored in order.
-use Prim.Native.Nat.{ℕ, zero, suc, _+_, _-_, _*_, _≤_, _<_}
+use Prim.Native.Nat.{ℕ, _+_, _-_, _*_, _≤_, _<_, _^_}
 use native.Mathlib.Omega.{arith}
 use native.Mathlib.Numerals.{add-one}
 use native.Mathlib.Decide.{ℕ-discrete, decLt}
@@ -8,11 +8,11 @@ use mathlib.Core.Logic.{_⊎_, inl, inr}
 use lib.Dec.{eqb}
 use mathlib.Core.List.{List, [], _∷_, _++_, map, append-assoc, List·Memᴰ·tail, List·Memᴰ·head, List·Memᴰ·cases-cons}
 use mathlib.Core.Path.{_≡_, refl, sym, ap, _∙_}
-use lib.ListN.{length, getD, set, take, drop, length-append, length-map, length-take, length-drop, length-set, take-append-drop, drop-of-length-le}
-use lib.Seq.{length-take-le, getD-take, getD-drop, take-at, drop-at, take-take, ext-getD, take-all, drop-drop, drop-append-seam, take-append-seam, drop-cons}
+use lib.ListN.{length, getD, take, drop, length-append, length-map, take-append-drop, drop-of-length-le}
+use lib.Seq.{length-take-le, getD-take, take-at, drop-at, take-take, take-all, drop-drop, drop-append-seam, take-append-seam, drop-cons}
 use Rattle.rules.specs.Lists.{_∈_, at, sum, seg, those, range, concat}
 use Rattle.rules.specs.Facts.Segments.{back, seg-in-take, seg-length, back-length, back-seg-before, back-seg-after, seg-at, back-seg}
-use Rattle.rules.specs.Drawing.{Drawing, Accepted, part, nodeCount, Fits, opCount, sourcesOf, targetsOf}
+use Rattle.rules.specs.Drawing.{Drawing, Accepted, part, nodeCount, Fits, opCount, sourcesOf, targetsOf, mostItems, mostValues}
 use Rattle.rules.specs.Inner.Running.{memoryAt, Runs, outputsAt, Tables, inputsAt, worked, memoryOf, Reads, outputsIn, roomAt, Ready, runRest, ReadUpTo, operationAt, StoredUpTo, Ran}
 use Rattle.rules.specs.Refusals.{workspaceNeed}
 use Rattle.rules.specs.Facts.Placing.{sum-take-le, sum-all, sum-take, below-mono, below-le}
@@ -89,6 +89,36 @@ tables-kept d ws ws' e t =
 pub runs-kept : (d : Drawing) (ws ws' : List ℕ) → length ws' ≡ length ws → take (memoryAt d) ws' ≡ take (memoryAt d) ws → Runs d ws → Runs d ws'
 runs-kept d ws ws' l e r = record { accepted = r .accepted; suited = r .suited; long = l ∙ r .long; tables = tables-kept d ws ws' e (r .tables) }
 
+-- the numbers that an operation's lists and its part of the room come with
+pub record Sizes (d : Drawing) (ws : List ℕ) (e : ℕ) : Type 0 where
+  pub nodesFew : nodeCount d ≤ mostItems
+  pub opsFew : opCount d ≤ mostItems
+  pub sourcesFew : length (d .sourceValues) ≤ mostValues
+  pub targetsFew : length (d .targetValues) ≤ mostValues
+  pub sourceLists : length (d .sourceLengths) ≡ opCount d
+  pub targetLists : length (d .targetLengths) ≡ opCount d
+  pub sourceStart : getD ws (4 * opCount d + 1 + e) 0 ≡ sum (take e (d .sourceLengths))
+  pub targetStart : getD ws (5 * opCount d + 1 + e) 0 ≡ sum (take e (d .targetLengths))
+  pub sourceEnd : sum (take e (d .sourceLengths)) + at (d .sourceLengths) e ≤ length (d .sourceValues)
+  pub targetEnd : sum (take e (d .targetLengths)) + at (d .targetLengths) e ≤ length (d .targetValues)
+  pub room : length ws ≡ workspaceNeed d
+
+pub sizes : (d : Drawing) (ws : List ℕ) → Runs d ws → (e : ℕ) → e < opCount d → Sizes d ws e
+sizes d ws r e h =
+    record {
+      nodesFew = r .accepted .fewNodes;
+      opsFew = r .accepted .fewOps;
+      sourcesFew = r .accepted .sources .room;
+      targetsFew = r .accepted .targets .room;
+      sourceLists = r .accepted .sources .count;
+      targetLists = r .accepted .targets .count;
+      sourceStart = r .tables .sources e h;
+      targetStart = r .tables .targets e h;
+      sourceEnd = sources-in d (r .accepted) e;
+      targetEnd = targets-in d (r .accepted) e;
+      room = r .long;
+    }
+
 -- an operation in its part of a workspace: inputs gathered, then applied
 pub back-tail : (a k : ℕ) (xs ys ws : List ℕ) → a ≤ length ws → seg (a + length xs) (length ys) (back a k (xs ++ ys) ws) ≡ ys
 back-tail a k xs ys ws h =
@@ -111,6 +141,14 @@ module _ (base from label outs : ℕ) (places ws : List ℕ) (fits : from + leng
 
   pub gathered-long : length gathered ≡ length ws
   gathered-long = back-length from (length places) ins ws (omega arith) ins-are
+
+  -- what `apply` asks of the part that it is lent
+  pub apply-asks : (k : ℕ) (ws₁ : List ℕ) → k ≡ length places + outs → ws₁ ≡ gathered → suits (operation label) (length places) outs ≡ true → length places < 2 ^ 32
+      → ((length places ≤ length (seg from k ws₁)) × (length places < 2 ^ 32)) × (suits (operation label) (length places) (length (seg from k ws₁) - length places) ≡ true)
+  apply-asks k ws₁ e q u v =
+      let c : length (seg from k ws₁) ≡ length places + outs = seg-length from k ws₁ (omega (arith, ap length q, gathered-long)) ∙ e in
+      let o : length places + outs - length places ≡ outs = omega arith in
+      rw (c, o) ((omega arith, v), u)
 
   pub worked-back : (k : ℕ) (part ys ws₁ : List ℕ) → k ≡ length places + outs → ws₁ ≡ gathered → part ≡ seg from k ws₁
       → ys ≡ take (length places) part ++ result (operation label) (take (length places) part) (length part - length places)
@@ -142,6 +180,25 @@ module _ (d : Drawing) (ws : List ℕ) (r : Runs d ws) (e : ℕ) (h : e < opCoun
 
   pub suits-here : suits (operation (at (d .ops) e)) (length (sourcesOf d e)) (at (d .targetLengths) e) ≡ true
   suits-here = rw (← targets-long d (r .accepted) e) (r .suited e h)
+
+  -- what `work` asks, and what `scatter_within` does
+  pub work-asks : (places : List ℕ) (from : ℕ) → places ≡ sourcesOf d e → from ≡ inputsAt d e
+      → (((u : ℕ) → u ∈ places → memoryAt d + u < from) × (from + length places + at (d .targetLengths) e ≤ length ws))
+      × ((suits (operation (at (d .ops) e)) (length places) (at (d .targetLengths) e) ≡ true) × (length places < 2 ^ 32))
+  work-asks places from p q =
+      rw (p, q) (
+        (sources-before, omega (arith, sources-long d (r .accepted) e, part-fits d (r .accepted) ws (r .long) e)),
+        (suits-here, omega (arith, sources-long d (r .accepted) e, sources-in d (r .accepted) e, r .accepted .sources .room)),
+      )
+
+  pub scatter-asks : (places : List ℕ) (from : ℕ) → places ≡ targetsOf d e → from ≡ outputsAt d e
+      → ((u : ℕ) → u ∈ places → u < nodeCount d) × (memoryAt d + nodeCount d ≤ from) × (from + length places ≤ length ws)
+  scatter-asks places from p q = rw (p, q) (target-low, omega arith, omega (arith, targets-long d (r .accepted) e, part-fits d (r .accepted) ws (r .long) e))
+
+  pub scattered-one : (places : List ℕ) (from : ℕ) (ws' : List ℕ) → places ≡ targetsOf d e → from ≡ outputsAt d e
+      → ws' ≡ back (memoryAt d) (nodeCount d) (storeAll places (seg from (length places) ws) (seg (memoryAt d) (nodeCount d) ws)) ws
+      → ws' ≡ back (memoryAt d) (nodeCount d) (storeAll (targetsOf d e) (outputsIn d ws e) (memoryOf d ws)) ws
+  scattered-one places from ws' p q c = c ∙ rw (p, q, targets-long d (r .accepted) e)
 
   read-here : map (at (drop (memoryAt d) ws)) (sourcesOf d e) ≡ map (at M) (sourcesOf d e)
   read-here = map-same (at (drop (memoryAt d) ws)) (at M) (sourcesOf d e) (λ u m. sym (getD-take (nodeCount d) (drop (memoryAt d) ws) u 0 (source-low u m)))
@@ -192,8 +249,14 @@ module _ (d : Drawing) (ws : List ℕ) (r : Runs d ws) (e : ℕ) (h : e < opCoun
         keeps = λ f l n. done-keeps f (decLt f e) n;
       }
 
-  pub reads-one : (ws' : List ℕ) → ws' ≡ back (inputsAt d e) (length (sourcesOf d e) + at (d .targetLengths) e) (worked (memoryAt d) (at (d .ops) e) (at (d .targetLengths) e) (sourcesOf d e) ws) ws → Reads d e ws ws'
-  reads-one ws' q = rw (q ∙ ap (λ (j : ℕ). back (inputsAt d e) (j + at (d .targetLengths) e) (worked (memoryAt d) (at (d .ops) e) (at (d .targetLengths) e) (sourcesOf d e) ws) ws) (sources-long d (r .accepted) e) ∙ ap (λ (l : List ℕ). back (inputsAt d e) words l ws) worked-is) done-reads
+  one-back : (places : List ℕ) (from : ℕ) → places ≡ sourcesOf d e → from ≡ inputsAt d e
+      → back from (length places + at (d .targetLengths) e) (worked (memoryAt d) (at (d .ops) e) (at (d .targetLengths) e) places ws) ws ≡ back (inputsAt d e) words done ws
+  one-back places from p q = rw (p, q, sources-long d (r .accepted) e, worked-is)
+
+  pub reads-one : (places : List ℕ) (from : ℕ) (ws' : List ℕ) → places ≡ sourcesOf d e → from ≡ inputsAt d e
+      → ws' ≡ back from (length places + at (d .targetLengths) e) (worked (memoryAt d) (at (d .ops) e) (at (d .targetLengths) e) places ws) ws
+      → Reads d e ws ws'
+  reads-one places from ws' p q c = rw (c ∙ one-back places from p q) done-reads
 
 -- a segment of a segment
 seg-seg : (a n b len : ℕ) (l : List ℕ) → b + len ≤ n → seg (a + b) len l ≡ seg b len (seg a n l)
@@ -260,6 +323,23 @@ module _ (d : Drawing) (ws : List ℕ) (r : Runs d ws) where
 -- the operations at the places from lo on read, one after the other
 pub read-none : (d : Drawing) (lo : ℕ) (ws : List ℕ) → ReadUpTo d lo lo ws ws
 read-none d lo ws = record { long = refl; front = refl; ready = λ q g h. absurd (omega arith) }
+
+-- what has read still runs
+pub read-runs : (d : Drawing) (lo p : ℕ) (ws₀ ws : List ℕ) → Runs d ws₀ → ReadUpTo d lo p ws₀ ws → Runs d ws
+read-runs d lo p ws₀ ws r u = runs-kept d ws₀ ws (u .long) (front-less (roomAt d) ws₀ ws (u .front) (memoryAt d) (omega arith)) r
+
+-- and is ready to be stored
+pub read-ready : (d : Drawing) (lo hi : ℕ) (ws₀ ws : List ℕ) → hi ≤ opCount d → ReadUpTo d lo hi ws₀ ws → (q : ℕ) → lo ≤ q → q < hi → Ready d (memoryOf d ws) ws (operationAt d ws q)
+read-ready d lo hi ws₀ ws low u q g h =
+    rw (front-seg (roomAt d) ws₀ ws (u .front) (memoryAt d) (nodeCount d) (omega arith), front-at (roomAt d) ws₀ ws (u .front) (2 * opCount d + q) (omega arith)) (u .ready q g h)
+
+pub read-stored : (d : Drawing) (lo hi : ℕ) (ws₀ ws ws' : List ℕ) → lo ≤ hi → hi ≤ opCount d → ReadUpTo d lo hi ws₀ ws → StoredUpTo d lo hi ws ws' → StoredUpTo d lo hi ws₀ ws'
+read-stored d lo hi ws₀ ws ws' order low u s =
+    record {
+      long = s .long ∙ u .long;
+      front = s .front ∙ front-less (roomAt d) ws₀ ws (u .front) (memoryAt d) (omega arith);
+      memory = s .memory ∙ rw (front-seg (roomAt d) ws₀ ws (u .front) (memoryAt d) (nodeCount d) (omega arith), front-seg (roomAt d) ws₀ ws (u .front) (2 * opCount d + lo) (hi - lo) (omega arith));
+    }
 
 pub read-next : (d : Drawing) (ws₀ : List ℕ) → Runs d ws₀ → (lo p : ℕ) → p < opCount d → (ws ws' : List ℕ) → ReadUpTo d lo p ws₀ ws → Reads d (operationAt d ws p) ws ws' → ReadUpTo d lo (p + 1) ws₀ ws'
 read-next d ws₀ r lo p h ws ws' u s =
@@ -362,10 +442,10 @@ module _ (d : Drawing) (ws₀ : List ℕ) (r : Runs d ws₀) (lo hi : ℕ) (orde
       storing-next ws' q =
           rw
           (q
-            ∙ ap (λ (f : ℕ). back (memoryAt d) (nodeCount d) (storeAll (targetsOf d f) (outputsIn d ws f) (memoryOf d ws)) ws) same-e
-            ∙ ap (λ (l : List ℕ). back (memoryAt d) (nodeCount d) (storeAll (targetsOf d e) l (memoryOf d ws)) ws) outputs-stand
-            ∙ ap (back (memoryAt d) (nodeCount d) M') (s .held)
-            ∙ back-over (memoryAt d) (nodeCount d) (nodeCount d) (memoryOf d ws) M' ws₀ (omega (arith, memory-fits)) M-is (omega arith))
+          ∙ ap (λ (f : ℕ). back (memoryAt d) (nodeCount d) (storeAll (targetsOf d f) (outputsIn d ws f) (memoryOf d ws)) ws) same-e
+          ∙ ap (λ (l : List ℕ). back (memoryAt d) (nodeCount d) (storeAll (targetsOf d e) l (memoryOf d ws)) ws) outputs-stand
+          ∙ ap (back (memoryAt d) (nodeCount d) M') (s .held)
+          ∙ back-over (memoryAt d) (nodeCount d) (nodeCount d) (memoryOf d ws) M' ws₀ (omega (arith, memory-fits)) M-is (omega arith))
           stored-once
 
     pub storing-end : p ≡ hi → StoredUpTo d lo hi ws₀ ws

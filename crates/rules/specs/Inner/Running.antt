@@ -2,7 +2,7 @@
 -- n words of memory; and the room, in which each operation has its inputs and its outputs side by side. No promise cites this file.
 use Prim.Native.Nat.{ℕ, _+_, _-_, _*_, _≤_, _<_}
 use mathlib.Core.Bool.{true}
-use mathlib.Core.List.{List, _∷_, [], _++_, map}
+use mathlib.Core.List.{List, _++_, map}
 use mathlib.Core.Path.{_≡_}
 use lib.ListN.{length, getD, take, drop}
 use Rattle.rules.specs.Lists.{at, sum, seg, concat}
