@@ -36,3 +36,4 @@ pub mod Acyclic
 pub mod Operating
 pub mod Evaluating
 pub mod Running
+pub mod EvalCall

@@ -9,4 +9,5 @@ pub mod Acyclic
 pub mod Layering
 pub mod Operating
 pub mod Running
+pub mod Evaluating
 pub mod LayerSort
