@@ -67,3 +67,7 @@ pub mod Monomorphism
 pub mod LookupFace
 pub mod Demand3
 pub mod ConvexDecides
+pub mod Operating
+pub mod Evaluating
+pub mod Running
+pub mod EvalCall

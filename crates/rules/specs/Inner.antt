@@ -11,6 +11,9 @@ pub mod Acyclic
 pub mod Layering
 pub mod Search
 pub mod Selected
+pub mod Operating
+pub mod Running
+pub mod Evaluating
 pub mod LayerSort
 pub mod Decides
 pub mod Arrow

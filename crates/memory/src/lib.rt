@@ -1,0 +1,84 @@
+// Memory: words that are read and written at listed places, in a slice of their own or within a workspace.
+ghost use mathlib.Core.List.{map};
+ghost use mathlib.Core.Path.{_≡_};
+ghost use Prim.Native.Nat.{ℕ, _+_, _≤_, _<_, _^_};
+ghost use lib.ListN.{length, take, drop, getD};
+ghost use Rattle.rules.specs.Lists.{_∈_, at, has, sum, seg};
+ghost use Rattle.rules.specs.Evaluation.{storeAll};
+ghost use Rattle.rules.specs.Facts.Segments.{back};
+
+// Whether a number stands in a list.
+pub fn contains(list: &[u32], a: u32) -> bool
+    ensures { λ r. ⌜ r ≡ has (now (list .entry)) a ⌝ }
+{
+    let mut i = 0;
+    while i < list.len() {
+        if a == list[i] {
+            return true;
+        }
+        i += 1;
+    }
+    false
+}
+
+// Where each of some lists begins, if they stand one behind the other: the sum of the lengths before it.
+pub fn starts(t: &mut [u32], lens: &[u32])
+    requires { ⌜ (length (now t) ≡ length (now lens)) × (sum (now lens) < 2 ^ 32) ⌝ }
+    ensures { λ _. ⌜ ((e : ℕ) → e < length (now (lens .entry)) → getD (now (t .exit)) e 0 ≡ sum (take e (now (lens .entry)))) ⌝ }
+{
+    let mut total: u32 = 0;
+    let mut e = 0;
+    while e < lens.len() {
+        t[e] = total;
+        total += lens[e];
+        e += 1;
+    }
+}
+
+// Stores values at places one by one, stopping at the shorter list, later ones over earlier ones.
+pub fn scatter(memory: &mut [u32], places: &[u32], values: &[u32])
+    requires { ⌜ ((u : ℕ) → u ∈ now places → u < length (now memory)) ⌝ }
+    ensures { λ _. ⌜ now (memory .exit) ≡ storeAll (now (places .entry)) (now (values .entry)) (now (memory .entry)) ⌝ }
+{
+    let mut i = 0;
+    while (i < places.len()) & (i < values.len()) {
+        memory[places[i] as usize] = values[i];
+        i += 1;
+    }
+}
+
+// Reads the values at places.
+pub fn gather(out: &mut [u32], memory: &[u32], places: &[u32])
+    requires { ⌜ (length (now out) ≡ length (now places)) × ((u : ℕ) → u ∈ now places → u < length (now memory)) ⌝ }
+    ensures { λ _. ⌜ now (out .exit) ≡ map (at (now (memory .entry))) (now (places .entry)) ⌝ }
+{
+    let mut i = 0;
+    while i < places.len() {
+        out[i] = memory[places[i] as usize];
+        i += 1;
+    }
+}
+
+// Reads the values at places of the memory that begins at base, and writes them behind it, from a place on.
+pub fn gather_within(ws: &mut [u32], base: usize, to: usize, places: &[u32])
+    requires { ⌜ ((u : ℕ) → u ∈ now places → base + u < to) × (to + length (now places) ≤ length (now ws)) ⌝ }
+    ensures { λ _. ⌜ now (ws .exit) ≡ back to (length (now (places .entry))) (map (at (drop base (now (ws .entry)))) (now (places .entry))) (now (ws .entry)) ⌝ }
+{
+    let mut i = 0;
+    while i < places.len() {
+        ws[to + i] = ws[base + places[i] as usize];
+        i += 1;
+    }
+}
+
+// Stores the values that stand from a place on at places of the n words of memory before them, which begin at base.
+pub fn scatter_within(ws: &mut [u32], base: usize, n: usize, from: usize, places: &[u32])
+    requires { ⌜ ((u : ℕ) → u ∈ now places → u < n) × (base + n ≤ from) × (from + length (now places) ≤ length (now ws)) ⌝ }
+    ensures { λ _. ⌜ now (ws .exit) ≡ back base n (storeAll (now (places .entry)) (seg from (length (now (places .entry))) (now (ws .entry))) (seg base n (now (ws .entry)))) (now (ws .entry)) ⌝ }
+{
+    let mut i = 0;
+    while i < places.len() {
+        ws[base + places[i] as usize] = ws[from + i];
+        i += 1;
+    }
+}

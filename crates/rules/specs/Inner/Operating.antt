@@ -1,0 +1,9 @@
+-- What is asked where an operation's inputs are at hand and its outputs are not.
+use Prim.Native.Nat.{ℕ}
+use mathlib.Core.Bool.{true}
+use mathlib.Core.Path.{_≡_}
+use Rattle.rules.specs.Evaluation.{Operation, suits}
+
+-- the number of inputs suits, with some number of outputs
+abbrev pub Suited : Operation → ℕ → Type 0
+Suited o ins = (outs : ℕ) × (suits o ins outs ≡ true)
