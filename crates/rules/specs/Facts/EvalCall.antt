@@ -158,11 +158,11 @@ pub loaded : (d : Drawing) (b : Boundary) (values ws ws₁ : List ℕ) → Prepa
     → y ≡ storeAll (b .inputs) values (seg (memoryAt d) k ws₁) → Prepared d (startMemory d b values) ws (back (memoryAt d) k y ws₁)
 loaded d b values ws ws₁ p k y q e =
     rw q (
-      record {
-        long = back-length (memoryAt d) (nodeCount d) y ws₁ fits y-long ∙ p .long;
-        runs = runs-kept d ws₁ (back (memoryAt d) (nodeCount d) y ws₁) (back-length (memoryAt d) (nodeCount d) y ws₁ fits y-long) (back-front (memoryAt d) (nodeCount d) y ws₁ (omega (arith, fits)) (memoryAt d) (omega arith)) (p .runs);
-        holds = back-seg (memoryAt d) (nodeCount d) y ws₁ fits y-long ∙ start;
-      }
+    record {
+      long = back-length (memoryAt d) (nodeCount d) y ws₁ fits y-long ∙ p .long;
+      runs = runs-kept d ws₁ (back (memoryAt d) (nodeCount d) y ws₁) (back-length (memoryAt d) (nodeCount d) y ws₁ fits y-long) (back-front (memoryAt d) (nodeCount d) y ws₁ (omega (arith, fits)) (memoryAt d) (omega arith)) (p .runs);
+      holds = back-seg (memoryAt d) (nodeCount d) y ws₁ fits y-long ∙ start;
+    }
     )
   where
     start : y ≡ startMemory d b values
