@@ -7,3 +7,4 @@ pub mod IncidenceTable
 pub mod Checks
 pub mod Acyclic
 pub mod Layering
+pub mod LayerSort

@@ -19,7 +19,7 @@ use Rattle.rules.specs.Facts.Converse.{listing-converse}
 use Rattle.rules.specs.Facts.Counts.{count-above}
 use Rattle.rules.specs.Facts.IncidenceTheorem.{from-node, target-low, from-op}
 use Rattle.rules.specs.Facts.Member.{part-inside}
-use Rattle.rules.specs.Facts.Placing.{sum-take, sum-all, below-le, below-next, below-zero, owners-length, all-starts, all-lists}
+use Rattle.rules.specs.Facts.Placing.{sum-take, sum-all, below-le, below-next, below-zero, owners-length, all-starts, all-lists, sum-counts}
 use Rattle.rules.specs.Facts.Segments.{seg-same, back, back-length, back-before, back-in}
 use Rattle.rules.specs.Facts.Tables.{row, tails}
 
@@ -78,8 +78,7 @@ module _ {n p : ℕ} {sv tl t z l : List ℕ} (f : Lengths n p sv tl t z l) wher
     c-ops e h = omega (arith, hc .each (n + 1 + e), y-ops e h, count-above sv n (n + 1 + e) (f .low) (omega arith))
 
     sum-nodes : (v : ℕ) → v ≤ n + 1 → sum (take v c) ≡ below v sv
-    sum-nodes zero h = sym (below-zero sv)
-    sum-nodes (suc v) h = rw (← add-one v) (omega (arith, sum-take c v, below-next v sv, c-nodes v (omega arith), sum-nodes v (omega arith)))
+    sum-nodes v h = sum-counts sv c (n + 1) (λ v b. c-nodes v (omega arith)) v h
 
     pub sum-ops : (e : ℕ) → e ≤ length tl → sum (take (n + 1 + e) c) ≡ length sv + sum (take e tl)
     sum-ops zero h =

@@ -1,0 +1,2 @@
+// Layers of a drawing's operations.
+pub mod layer;

@@ -1,0 +1,40 @@
+-- What the program writes, from what the reader and the writer did: the laws of the function that calls them.
+use Prim.Native.Nat.{ℕ, _≤_}
+use mathlib.Core.List.{List}
+use mathlib.Core.Path.{_≡_, refl, sym, ap, _∙_}
+use native.Mathlib.Omega.{arith}
+use lib.ListN.{length}
+use Rattle.rules.specs.Drawing.{Drawing}
+use Rattle.rules.specs.Analysis.{orders, marks}
+use Rattle.rules.specs.Text.{Sections, whole, broken, wholeText, mostBytes}
+use Rattle.rules.specs.Program.{operationLines, refusedLine, answer, drawingIn, boundaryIn, valuesIn, outputOf}
+use Rattle.rules.specs.Facts.Output.{output-broken, output-whole}
+use Rattle.rules.specs.Facts.OutputLong.{mostWritten, output-long, orders-length}
+use Rattle.text.specs.declared.Text.{Text}
+use Rattle.text.specs.declared.Text.the-variants.{Read as TextRead, Refused as TextRefused}
+use Rattle.text.specs.Reading.{textAnswer, ReadText, sectionsOf}
+use Rattle.text.specs.Writing.{operations}
+use Rattle.text.specs.Facts.Parts.{Held}
+use Rattle.text.specs.Facts.Puts.{Rest, rest-start}
+
+-- there is room for all that is written
+pub output-start : (t out : List ℕ) → mostWritten ≤ length out → Rest 0 out (outputOf t) 0 out (outputOf t)
+output-start t out h = rest-start 0 out (outputOf t) (omega (arith, output-long t))
+
+module _ (t : List ℕ) (h : length t ≤ mostBytes) where
+  -- a text that is refused
+  pub read-refused : {cs cs' ns ns' : List ℕ} {r : Text} (k : ℕ) → ReadText (wholeText t) cs cs' ns ns' r → r ≡ TextRefused k → outputOf t ≡ refusedLine k
+  read-refused k e q = go (wholeText t) refl (sym q ∙ e .answer)
+    where
+      go : (s : Sections) → wholeText t ≡ s → TextRefused k ≡ textAnswer s → outputOf t ≡ refusedLine k
+      go (whole ls) w a = let z : _≡_ {A = ℕ} 0 1 = cc in absurd (omega arith)
+      go (broken ls ms j) w a = let z : j ≡ k = cc in output-broken t h ls ms j w ∙ ap refusedLine z
+
+  -- a text that is read
+  pub read-answer : {cs ns : List ℕ} → Held t cs ns → outputOf t ≡ answer (drawingIn (sectionsOf cs ns)) (boundaryIn (sectionsOf cs ns)) (valuesIn (sectionsOf cs ns))
+  read-answer {cs} {ns} e = output-whole t h (sectionsOf cs ns) (e .same)
+
+-- the operations' header and lines, from the orders and marks that `layer` wrote
+pub operations-are : (d : Drawing) → operations (orders d) (marks d) ≡ operationLines d
+unfolding operations operationLines
+operations-are d = rw (orders-length d)
