@@ -4,8 +4,8 @@
 use rules::Done;
 use rules::Refusal;
 ghost use mathlib.Core.Path.{_≡_};
-ghost use Rattle.rules.specs.Drawing.{drawing, maps, boundary};
-ghost use Rattle.rules.specs.Refusals.{refusalOf, within, lengthsFit, valuesStand, mapsWithin, entriesStand, boundaryWithin, boundaryStands};
+ghost use Rattle.rules.specs.Drawing.{Accepted, drawing, maps, boundary};
+ghost use Rattle.rules.specs.Refusals.{refusalOf, workspaceNeed, within, lengthsFit, valuesStand, mapsWithin, entriesStand, boundaryWithin, boundaryStands};
 ghost use Rattle.rules.specs.Promises.{CheckDrawing, CheckMaps, CheckBoundary};
 ghost use Rattle.rules.specs.Inner.Checks.{listsRefusal, boundaryListsRefusal};
 
@@ -57,6 +57,14 @@ pub fn check_drawing(w: &[u32], x: &[u32], sl: &[u32], sv: &[u32], tl: &[u32], t
     } else {
         Done::Faulty(Refusal::OverLimit)
     }
+}
+
+// W: how many words of workspace a call on a valid drawing needs.
+pub fn workspace_need(w: &[u32], x: &[u32], sl: &[u32], sv: &[u32], tl: &[u32], tv: &[u32]) -> usize
+    requires { ⌜ Accepted (drawing (now w) (now x) (now sl) (now sv) (now tl) (now tv)) ⌝ }
+    ensures { λ r. ⌜ r ≡ workspaceNeed (drawing (now (w .entry)) (now (x .entry)) (now (sl .entry)) (now (sv .entry)) (now (tl .entry)) (now (tv .entry))) ⌝ }
+{
+    8 * (w.len() + x.len()) + 2 * (sv.len() + tv.len()) + 8
 }
 
 // 1: whether two maps, entries fw and fx with declared targets wd and xd, are within their limits.

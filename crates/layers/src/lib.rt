@@ -1,2 +1,3 @@
 // Layers of a drawing's operations.
 pub mod layer;
+pub mod lookup;

@@ -3,8 +3,13 @@ pub mod Incidence
 pub mod Table
 pub mod Walk
 pub mod Loops
+pub mod Rows
+pub mod Rooms
 pub mod IncidenceTable
 pub mod Checks
 pub mod Acyclic
 pub mod Layering
 pub mod LayerSort
+pub mod Decides
+pub mod Arrow
+pub mod LayerCalls

@@ -1,7 +1,7 @@
 -- How often a number stands in a list, and how it falls as a loop goes through the list.
-use Prim.Native.Nat.{ℕ, zero, suc, _+_, _-_, _≤_, _<_, zero-le}
+use Prim.Native.Nat.{_*_, ℕ, zero, suc, _+_, _-_, _≤_, _<_, zero-le}
 use mathlib.Core.Bool.{Bool, true, false}
-use mathlib.Core.List.{List, [], _∷_, _++_, List·Memᴰ·head, List·Memᴰ·tail, List·Memᴰ·not-nil}
+use mathlib.Core.List.{map, List, [], _∷_, _++_, List·Memᴰ·head, List·Memᴰ·tail, List·Memᴰ·not-nil}
 use mathlib.Core.Path.{_≡_, refl, sym, ap}
 use native.Mathlib.Numerals.{add-one}
 use native.Mathlib.Omega.{arith}
@@ -9,8 +9,8 @@ use lib.ListN.{length, getD, drop, drop-of-length-le}
 use lib.Seq.{drop-cons}
 use lib.Dec.{eqb}
 use borrow.Author.Tests.{eqb-true, eqb-false, lt-ltb, le-ltb}
-use Rattle.rules.specs.Lists.{_∈_, sum, allBelow}
-use Rattle.rules.specs.Inner.Words.{bit, count, upFrom}
+use Rattle.rules.specs.Lists.{_∈_, sum, allBelow, at}
+use Rattle.rules.specs.Inner.Words.{bit, count, upFrom, products}
 use Rattle.rules.specs.Facts.Stores.{bit-same, bit-other}
 
 -- one step of each fold, at `drop i`
@@ -118,3 +118,19 @@ upFrom-more i k h = let e : k - i ≡ suc (k - (i + 1)) = omega arith in rw (e, 
 pub upFrom-over : (i k : ℕ) → k ≤ i → upFrom i (k - i) ≡ []
 unfolding upFrom
 upFrom-over i k h = let e : k - i ≡ 0 = omega arith in rw e
+
+-- the numbers that a list names, added up
+pub sum-at-more : (t l : List ℕ) (i : ℕ) → i < length l → sum (map (at t) (drop i l)) ≡ getD t (getD l i 0) 0 + sum (map (at t) (drop (i + 1) l))
+sum-at-more t l i h = rw (drop-more l i h)
+
+pub sum-at-end : (t l : List ℕ) (i : ℕ) → length l ≤ i → sum (map (at t) (drop i l)) ≡ 0
+sum-at-end t l i h = rw (drop-of-length-le l h)
+
+-- products, added up
+pub products-more : (a b : List ℕ) (i : ℕ) → i < length a → i < length b → products (drop i a) (drop i b) ≡ getD a i 0 * getD b i 0 + products (drop (i + 1) a) (drop (i + 1) b)
+unfolding products
+products-more a b i h g = rw (drop-more a i h, drop-more b i g)
+
+pub products-end : (a b : List ℕ) (i : ℕ) → length a ≤ i → products (drop i a) (drop i b) ≡ 0
+unfolding products
+products-end a b i h = rw (drop-of-length-le a h)

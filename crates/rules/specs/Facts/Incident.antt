@@ -5,10 +5,10 @@ use mathlib.Core.Path.{_≡_, refl, sym, ap, _∙_}
 use native.Mathlib.Numerals.{add-one}
 use native.Mathlib.Omega.{arith}
 use native.Mathlib.Decide.{decLt}
-use lib.ListN.{length, getD, take, drop, length-drop, length-append, length-replicate, replicate, getD-replicate, List·getD-append, drop-of-length-le}
+use lib.ListN.{length, getD, take, drop, length-drop, drop-of-length-le}
 use lib.Seq.{drop-at, drop-drop, length-take-le}
 use borrow.Author.Tests.{lt-ltb, le-ltb}
-use Rattle.rules.specs.Drawing.{Drawing, Accepted, part, targetsOf, nodeCount, opCount, mostItems}
+use Rattle.rules.specs.Drawing.{Drawing, Accepted, part, targetsOf, nodeCount, opCount, mostItems, Fits}
 use Rattle.rules.specs.Lists.{_∈_, sum, seg}
 use Rattle.rules.specs.Inner.Incidence.{items, incidence}
 use Rattle.rules.specs.Inner.IncidenceTable.{Offsets, Incident, tableLength}
@@ -20,18 +20,15 @@ use Rattle.rules.specs.Facts.Counts.{count-above}
 use Rattle.rules.specs.Facts.IncidenceTheorem.{from-node, target-low, from-op}
 use Rattle.rules.specs.Facts.Member.{part-inside}
 use Rattle.rules.specs.Facts.Placing.{sum-take, sum-all, below-le, below-next, below-zero, owners-length, all-starts, all-lists, sum-counts}
-use Rattle.rules.specs.Facts.Segments.{seg-same, back, back-length, back-before, back-in}
+use Rattle.rules.specs.Facts.Segments.{seg-same, back, back-length, back-before, back-in, filled-front, filled-long}
 use Rattle.rules.specs.Facts.Tables.{row, tails}
 
--- an accepted drawing's sources are few enough to count
+-- a valid drawing's lists are few enough to count
+pub fits-listed : {n m : ℕ} {lens vals : List ℕ} (first : ℕ) → Fits n m lens vals → m ≤ mostItems → first ≤ mostItems → Listed n first lens vals
+fits-listed first a h g = record { total = a .total; below = a .below; few-lists = omega (arith, a .count); few-values = omega (arith, a .room) }
+
 pub sources-listed : (d : Drawing) (first : ℕ) → Accepted d → first ≤ mostItems → Listed (nodeCount d) first (d .sourceLengths) (d .sourceValues)
-sources-listed d first a h =
-    record {
-      total = a .sources .total;
-      below = a .sources .below;
-      few-lists = omega (arith, a .fewOps, a .sources .count);
-      few-values = omega (arith, a .sources .room);
-    }
+sources-listed d first a h = fits-listed first (a .sources) (a .fewOps) h
 
 -- where all are below n, all are counted there
 pub below-all : (n : ℕ) (l : List ℕ) → ((u : ℕ) → u ∈ l → u < n) → below n l ≡ length l
@@ -50,7 +47,7 @@ pub record Lengths (n p : ℕ) (sv tl t z l : List ℕ) : Type 0 where
 -- then the listings are counted, and all is summed up
 module _ {n p : ℕ} {sv tl t z l : List ℕ} (f : Lengths n p sv tl t z l) where
   z-long : length z ≡ length t
-  z-long = rw (f .cleared) (simp (length-append, length-replicate, length-drop) (omega arith))
+  z-long = ap length (f .cleared) ∙ filled-long (n + 1) 0 t (omega arith)
 
   l-long : length l ≡ p
   l-long = ap length (f .copied) ∙ sym (f .p-is)
@@ -65,7 +62,7 @@ module _ {n p : ℕ} {sv tl t z l : List ℕ} (f : Lengths n p sv tl t z l) wher
   pub y-nodes : (v : ℕ) → v ≤ n → getD y v 0 ≡ 0
   y-nodes v h =
       back-before (n + 1) p l z (omega (arith, z-long)) l-long v (omega arith)
-      ∙ rw (f .cleared) (List·getD-append (replicate (n + 1) 0) (drop (n + 1) t) 0 v (simp length-replicate (omega arith)) ∙ getD-replicate {A = ℕ} (n + 1) v 0 0 (omega arith))
+      ∙ rw (f .cleared) (filled-front (n + 1) 0 t v (omega arith))
 
   y-ops : (e : ℕ) → e < length tl → getD y (n + 1 + e) 0 ≡ getD tl e 0
   y-ops e h = back-in (n + 1) p l z (omega (arith, z-long)) l-long e (omega arith) ∙ rw (f .copied)

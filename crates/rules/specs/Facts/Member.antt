@@ -97,13 +97,13 @@ range-at (suc k) i h = go (range-at k i) (decLt i k)
     go ih (yes l) = List·getD-append (range k) (k ∷ []) 0 i (omega (arith, range-length k)) ∙ ih l
     go ih (no l) = let e : i ≡ k = omega arith in rw e (getD-at (range k) k [] 0 k (range-length k))
 
+pub map-at : (f : ℕ → ℕ) (l : List ℕ) (i : ℕ) → i < length l → getD (map f l) i 0 ≡ f (getD l i 0)
+map-at f [] i h = absurd (omega arith)
+map-at f (a ∷ l) zero h = refl
+map-at f (a ∷ l) (suc i) h = map-at f l i (omega arith)
+
 pub map-range : (f : ℕ → ℕ) (k i : ℕ) → i < k → getD (map f (range k)) i 0 ≡ f i
-map-range f k i h = map-at (range k) i (omega (arith, range-length k)) ∙ ap f (range-at k i h)
-  where
-    map-at : (l : List ℕ) (i : ℕ) → i < length l → getD (map f l) i 0 ≡ f (getD l i 0)
-    map-at [] i h = absurd (omega arith)
-    map-at (a ∷ l) zero h = refl
-    map-at (a ∷ l) (suc i) h = map-at l i (omega arith)
+map-range f k i h = map-at f (range k) i (omega (arith, range-length k)) ∙ ap f (range-at k i h)
 
 pub concat-i : (g : ℕ → List ℕ) {u e : ℕ} {l : List ℕ} → e ∈ l → u ∈ g e → u ∈ concat (map g l)
 concat-i g {u} (List·Memᴰ·head {xs = r} q) m = Memᴰ·append-left (concat (map g r)) (subst (λ z. u ∈ g z) q m)

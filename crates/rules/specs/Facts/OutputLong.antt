@@ -60,7 +60,7 @@ tail-length : (k : ℕ) (vs : List ℕ) → length (valuesOrRefused k vs) ≤ 19
 tail-length zero vs = omega (arith, values-length vs)
 tail-length (suc k) vs = omega (arith, refused-length (suc k))
 
-evaluated-length : (d : Drawing) (b : Boundary) (values : List ℕ) → length (evaluated d b values) ≡ length (b .outputs)
+pub evaluated-length : (d : Drawing) (b : Boundary) (values : List ℕ) → length (evaluated d b values) ≡ length (b .outputs)
 unfolding evaluated
 evaluated-length d b values = length-map (b .outputs) _
 

@@ -81,10 +81,24 @@ module _ (a k : ℕ) (ys ws : List ℕ) (fits : a + k ≤ length ws) (long : len
   back-seg-after b len h g =
       seg-same b len ws (back a k ys ws) g (back-length a k ys ws fits long) (λ i hi. back-after a k ys ws fits long (b + i) (omega arith))
 
+-- a list of which the front was filled
+module _ (n a : ℕ) (l : List ℕ) where
+  pub filled-front : (i : ℕ) → i < n → getD (filled n a l) i 0 ≡ a
+  filled-front i h = List·getD-append (replicate n a) (drop n l) 0 i (simp length-replicate h) ∙ getD-replicate n i a 0 h
+
+  pub filled-rest : (i : ℕ) → n ≤ i → getD (filled n a l) i 0 ≡ getD l i 0
+  filled-rest i h =
+      let q : i ≡ length (replicate n a) + (i - n) = simp length-replicate (omega arith) in
+      let e : n + (i - n) ≡ i = omega arith in
+      ap (λ (j : ℕ). getD (filled n a l) j 0) q ∙ getD-append-add (replicate n a) (drop n l) (i - n) 0 ∙ getD-drop n l (i - n) 0 ∙ rw e
+
+  pub filled-long : n ≤ length l → length (filled n a l) ≡ length l
+  filled-long h = simp (length-append, length-replicate, length-drop) (omega arith)
+
 -- a part that was filled
 module _ (n a : ℕ) (l : List ℕ) (long : length l ≡ n) where
   pub filled-length : length (filled n a l) ≡ n
   filled-length = simp (length-append, length-replicate, length-drop) (omega arith)
 
   pub filled-at : (i : ℕ) → i < n → getD (filled n a l) i 0 ≡ a
-  filled-at i h = List·getD-append (replicate n a) (drop n l) 0 i (simp length-replicate h) ∙ getD-replicate n i a 0 h
+  filled-at i h = filled-front n a l i h

@@ -50,3 +50,8 @@ Onward n o os l t j t' j' = (t₀ : List ℕ) → Cursors n o l t₀ → length 
 pub record Few (n : ℕ) (sv tl t : List ℕ) : Type 0 where
   pub room : n + 1 + length tl ≤ length t
   pub sums : length sv + sum tl < 2 ^ 31
+
+-- t tells where each list's part of the values begins
+pub record Starting (lens t : List ℕ) : Type 0 where
+  pub long : length lens ≤ length t
+  pub each : (e : ℕ) → e < length lens → getD t e 0 ≡ sum (take e lens)

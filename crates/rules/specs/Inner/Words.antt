@@ -1,9 +1,10 @@
 -- Words on lists that proofs of loops use. No promise cites this folder.
-use Prim.Native.Nat.{ℕ, zero, suc, _+_}
+use Prim.Native.Nat.{ℕ, zero, suc, _+_, _*_}
 use mathlib.Core.Bool.{Bool, true, false, cond}
-use mathlib.Core.List.{List, [], _∷_, _++_}
+use mathlib.Core.List.{List, [], _∷_, _++_, map}
 use lib.ListN.{drop, replicate}
 use lib.Dec.{eqb, ltb}
+use Rattle.rules.specs.Lists.{sum, range}
 
 abbrev pub bit : Bool → ℕ
 bit true = 1
@@ -17,6 +18,20 @@ count v (a ∷ l) = bit (eqb a v) + count v l
 unfoldable pub below : ℕ → List ℕ → ℕ
 below v [] = 0
 below v (a ∷ l) = bit (ltb a v) + below v l
+
+-- how often each of 0 .. n - 1 stands in a list
+abbrev pub counts : ℕ → List ℕ → List ℕ
+counts n l = map (λ v. count v l) (range n)
+
+-- how often the entries of a list stand in another, added up
+abbrev pub listings : List ℕ → List ℕ → ℕ
+listings l k = sum (map (λ v. count v l) k)
+
+-- the sum of the products of two lists
+unfoldable pub products : List ℕ → List ℕ → ℕ
+products [] k = 0
+products (a ∷ l) [] = 0
+products (a ∷ l) (b ∷ k) = a * b + products l k
 
 abbrev pub some : ℕ → ℕ
 some zero = 0

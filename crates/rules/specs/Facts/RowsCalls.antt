@@ -1,0 +1,88 @@
+-- The promise of a call that writes rows, at each of its returns.
+use Prim.Native.Nat.{ℕ, _+_, _-_, _≤_}
+use native.Mathlib.Omega.{arith}
+use mathlib.Core.Bool.{Bool, true, false, _&&_}
+use mathlib.Core.List.{List, [], _∷_, _++_}
+use mathlib.Core.Path.{_≡_, refl, sym, ap, _∙_}
+use lib.ListN.{length, drop, replicate}
+use lib.Seq.{drop-append-add, drop-drop}
+use lib.Dec.{leb}
+use borrow.Author.Tests.{leb-true}
+use Rattle.rules.specs.Lists.{rowLengths, rowEntries}
+use Rattle.rules.specs.declared.Done.{Done}
+use Rattle.rules.specs.declared.Done.the-variants.{Fine, Faulty}
+use Rattle.rules.specs.declared.Refusal.{Refusal}
+use Rattle.rules.specs.declared.Refusal.the-variants.{ShortRoom}
+use Rattle.rules.specs.Inner.Rooms.{roomsFit, roomsRefusal}
+use Rattle.rules.specs.Drawing.{Drawing}
+use Rattle.rules.specs.Refusals.{firstOf, unless, shortRoom, workspaceNeed, within, badLengths, number, badValue}
+use Rattle.rules.specs.Inner.Words.{filled}
+use Rattle.rules.specs.Promises.{WritesRows}
+use Rattle.rules.specs.Inner.Rows.{PutRows}
+use Rattle.rules.specs.Facts.Tests.{both}
+use Rattle.rules.specs.Calls.{drawingRefusal, twoOutputsRefusal}
+use Rattle.rules.specs.Facts.Rows.{put-front}
+use Rattle.rules.specs.Facts.Refusing.{first-behind, first-append, number-some, refused-keeps, early-left, drawing-early}
+
+three : (a b c : Bool) → firstOf (unless a 11 ∷ unless b 11 ∷ unless c 11 ∷ []) ≡ unless (a && b && c) 11
+three true true true = refl
+three true true false = refl
+three true false c = refl
+three false b c = refl
+
+-- rooms that fit, one by one
+pub rooms-three : {need₁ room₁ need₂ room₂ words room : ℕ} → roomsFit need₁ room₁ need₂ room₂ words room ≡ true → (need₁ ≤ room₁) × (need₂ ≤ room₂) × (words ≤ room)
+rooms-three {need₁} {room₁} {need₂} {room₂} {words} {room} e =
+    let p = both (leb need₁ room₁ && leb need₂ room₂) (leb words room) e in
+    let q = both (leb need₁ room₁) (leb need₂ room₂) (p .0) in
+    (leb-true _ _ (q .0), leb-true _ _ (q .1), leb-true _ _ (p .1))
+
+-- words at the front that were used and are cleared
+pub front-cleared : (k words : ℕ) (t ws : List ℕ) → length t ≡ k → k ≤ words → filled words 0 (t ++ drop k ws) ≡ filled words 0 ws
+front-cleared k words t ws h l = ap (λ (r : List ℕ). replicate words 0 ++ r) gone
+  where
+    gone : drop words (t ++ drop k ws) ≡ drop words ws
+    gone =
+        let e : words ≡ length t + (words - k) = omega arith in
+        let f : k + (words - k) ≡ words = omega arith in
+        ap (λ (j : ℕ). drop j (t ++ drop k ws)) e ∙ drop-append-add t (drop k ws) (words - k) ∙ drop-drop (words - k) k ws ∙ rw f
+
+-- the rooms are looked at
+module _ (rows : ℕ → List ℕ) (k need₁ room₁ need₂ room₂ words room : ℕ) (lens lens' vals vals' ws ws' : List ℕ) where
+  pub rows-short : roomsFit need₁ room₁ need₂ room₂ words room ≡ false → WritesRows rows k (roomsRefusal need₁ room₁ need₂ room₂ words room) words lens lens vals vals ws ws (Faulty ShortRoom)
+  unfolding roomsRefusal
+  rows-short e = record { refusal = sym (three (leb need₁ room₁) (leb need₂ room₂) (leb words room) ∙ rw e); lengths = refl; values = refl; workspace = refl }
+
+  pub rows-done : roomsFit need₁ room₁ need₂ room₂ words room ≡ true → PutRows rows k lens lens' vals vals' → ws' ≡ filled words 0 ws
+      → WritesRows rows k (roomsRefusal need₁ room₁ need₂ room₂ words room) words lens lens' vals vals' ws ws' Fine
+  unfolding roomsRefusal
+  rows-done e p c =
+      record {
+        refusal = sym (three (leb need₁ room₁) (leb need₂ room₂) (leb words room) ∙ rw e);
+        lengths = p .lengths ∙ put-front (rowLengths rows k) lens;
+        values = p .entries ∙ put-front (rowEntries rows k) vals;
+        workspace = c;
+      }
+
+-- the drawing is looked at before
+module _ (d : Drawing) (rows : ℕ → List ℕ) (k need₁ room₁ need₂ room₂ room : ℕ) (lens vals ws : List ℕ) where
+  abbrev checks : List ℕ
+  checks = unless (within d) 1 ∷ badLengths d ∷ badValue d ∷ []
+
+  abbrev rooms : List ℕ
+  rooms = shortRoom need₁ room₁ ∷ shortRoom need₂ room₂ ∷ shortRoom (workspaceNeed d) room ∷ []
+
+  pub rows-faulty : (why : Refusal) → number why ≡ drawingRefusal d → WritesRows rows k (twoOutputsRefusal d need₁ room₁ need₂ room₂ room) (workspaceNeed d) lens lens vals vals ws ws (Faulty why)
+  unfolding drawingRefusal twoOutputsRefusal
+  rows-faulty why e =
+      record {
+        refusal = sym (first-append checks rooms (number why) e (number-some why));
+        lengths = refused-keeps (number why) (rowLengths rows k) lens (number-some why);
+        values = refused-keeps (number why) (rowEntries rows k) vals (number-some why);
+        workspace = early-left (number why) (workspaceNeed d) ws (rw e (drawing-early d)) (number-some why);
+      }
+
+  pub rows-fine : {lens' vals' ws' : List ℕ} {r : Done} → drawingRefusal d ≡ 0 → WritesRows rows k (roomsRefusal need₁ room₁ need₂ room₂ (workspaceNeed d) room) (workspaceNeed d) lens lens' vals vals' ws ws' r
+      → WritesRows rows k (twoOutputsRefusal d need₁ room₁ need₂ room₂ room) (workspaceNeed d) lens lens' vals vals' ws ws' r
+  unfolding drawingRefusal twoOutputsRefusal roomsRefusal
+  rows-fine e p = record { refusal = p .refusal ∙ sym (first-behind checks rooms e); lengths = p .lengths; values = p .values; workspace = p .workspace }

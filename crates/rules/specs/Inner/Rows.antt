@@ -1,0 +1,48 @@
+-- Rows one behind the other: tables of offsets and entries, and rows that are put into an output.
+use Prim.Native.Nat.{ℕ, _+_, _-_, _<_, _≤_}
+use mathlib.Core.List.{List, map, _++_}
+use mathlib.Core.Path.{_≡_}
+use lib.ListN.{length, getD, take, drop}
+use Rattle.rules.specs.Analysis.{converse}
+use Rattle.rules.specs.Lists.{sum, seg, concat, rowLengths, rowEntries}
+
+-- row i: the entries between two offsets
+unfoldable pub rowOf : List ℕ → List ℕ → ℕ → List ℕ
+rowOf off vals i = seg (getD off i 0) (getD off (i + 1) 0 - getD off i 0) vals
+
+-- offsets that never fall and stay within the entries
+pub record Sections (off vals : List ℕ) : Type 0 where
+  pub rises : (i : ℕ) → i + 1 < length off → getD off i 0 ≤ getD off (i + 1) 0
+  pub within : (i : ℕ) → i < length off → getD off i 0 ≤ length vals
+
+-- off and vals are the table of k rows
+pub record Tabled (rows : ℕ → List ℕ) (k : ℕ) (off vals : List ℕ) : Type 0 where
+  pub long : length off ≡ k + 1
+  pub starts : (i : ℕ) → i ≤ k → getD off i 0 ≡ length (rowEntries rows i)
+  pub entries : vals ≡ rowEntries rows k
+
+-- t is the table of a converse: n + 1 offsets, then the entries
+abbrev pub ConverseTable : ℕ → List ℕ → List ℕ → List ℕ → Type 0
+ConverseTable n lens vals t = Tabled (converse lens vals) n (take (n + 1) t) (drop (n + 1) t)
+
+-- the offsets of lists that are given by their lengths
+pub record Starts (lens off : List ℕ) : Type 0 where
+  pub long : length off ≡ length lens + 1
+  pub sums : (e : ℕ) → e ≤ length lens → getD off e 0 ≡ sum (take e lens)
+
+-- numbers put into a list from a place on, and the place behind them
+abbrev pub putAt : ℕ → List ℕ → List ℕ → List ℕ
+putAt from new l = take from l ++ (new ++ drop (from + length new) l)
+
+pub record Put (from : ℕ) (new l l' : List ℕ) (to : ℕ) : Type 0 where
+  pub list : l' ≡ putAt from new l
+  pub behind : to ≡ from + length new
+
+-- each entry of a row of the first table gives way to its row of the second
+unfoldable pub flatRow : (aoff avals boff bvals : List ℕ) → ℕ → List ℕ
+flatRow aoff avals boff bvals i = concat (map (rowOf boff bvals) (rowOf aoff avals i))
+
+-- k rows put into two outputs, as lengths and as entries
+pub record PutRows (rows : ℕ → List ℕ) (k : ℕ) (lens lens' vals vals' : List ℕ) : Type 0 where
+  pub lengths : lens' ≡ putAt 0 (rowLengths rows k) lens
+  pub entries : vals' ≡ putAt 0 (rowEntries rows k) vals
