@@ -16,6 +16,7 @@ from shrink import smallest
 FOLDER = os.path.dirname(os.path.abspath(__file__))
 ORACLE = os.path.join(FOLDER, "target", "oracle")
 BLOCK = 500  # cases for one run of a program
+SHRINKING = 1000  # tries to make a case smaller
 
 
 # ---- Answers ------------------------------------------------------------------------------------
@@ -64,7 +65,8 @@ def shown(case, pairs, names):
 # ---- Comparing with the oracle ------------------------------------------------------------------
 
 def compare_block(answers, name, left_out, seed, block):
-    """How many cases of a block were compared, and for each difference the smallest case found."""
+    """How many cases of a block were compared, and the smallest case found for the first difference; the others
+    are named."""
     def expected_answers(cases):
         return [without(lines, left_out) for lines in oracle_answers(cases)]
 
@@ -74,9 +76,11 @@ def compare_block(answers, name, left_out, seed, block):
     cases = [case_at(seed, index) for index in block]
     found = []
     for case, expected, given in zip(cases, expected_answers(cases), answers(cases)):
-        if expected != given:
-            small = smallest(case, differs)
+        if expected != given and not found:
+            small = smallest(case, differs, SHRINKING)
             found.append(shown(small, differs(small), ("oracle", name)))
+        elif expected != given:
+            found.append(f"case {case.name} differs too")
     return len(cases), found
 
 
