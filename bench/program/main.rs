@@ -12,14 +12,11 @@ fn main() {
     let mut rows: Vec<Row> = Vec::new();
     for &(family, _, make) in &FAMILIES {
         for &n in sizes {
+            eprintln!("{family}, n = {n}");
             let input = make(n);
-            for call in CALLS {
-                eprint!("\r{family}, n = {n}: {call}                    ");
-                rows.extend(measure(family, n, call, &input, quick));
-            }
+            rows.extend(CALLS.iter().filter_map(|call| measure(family, n, call, &input, quick)));
         }
     }
-    eprint!("\r                                                              \r");
     print!("{}", report::text(&rows, sizes));
     if rows.iter().any(|row| row.differs) {
         println!("the two do not agree");

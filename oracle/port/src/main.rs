@@ -1,11 +1,13 @@
 //! Reads cases from standard input and prints every answer of the port, in the oracle's lines. Each call is made
 //! several times, in rooms of several lengths that hold noise; what is left in them is tested, and a line that ends
-//! in `but ...` says what was wrong. `--absent` prints the functions that the archive does not have yet.
+//! in `but ...` says what was wrong. `--replay` reads the list that oracle/make-replay makes and prints what
+//! crates/replay must print. `--absent` prints the functions that the archive does not have yet.
 mod answers;
 #[path = "../../program/case.rs"]
 mod case;
 mod lent;
 mod offsets;
+mod replay;
 
 use case::Cases;
 use std::io::{self, BufRead, Write};
@@ -15,7 +17,8 @@ fn main() {
         println!("{}", answers::absent().join(" "));
         return;
     }
-    if let Err(error) = run() {
+    let replay = std::env::args().nth(1).as_deref() == Some("--replay");
+    if let Err(error) = if replay { replay::run() } else { run() } {
         eprintln!("port: {error}");
         std::process::exit(2);
     }
