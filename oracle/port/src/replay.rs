@@ -54,11 +54,8 @@ fn replayed(next: &mut dyn FnMut() -> u32) -> Vec<u32> {
         12 => d.layered_operations_into(&mut a, &mut b, &mut c, &mut ws),
         13 => told(Ok(offsets_sound(&inputs, &outputs).into())),
         14 => {
-            let part = layer_at(&inputs, &outputs, layer);
-            let start =
-                if part.is_empty() { 0 } else { (part.as_ptr() as usize - inputs.as_ptr() as usize) / 4 };
-            words = [start as u32, part.len() as u32];
-            Ok(())
+            a = layer_at(&inputs, &outputs, layer).to_vec();
+            told(Ok(a.len() as u32))
         }
         15 => maps.validate(&source, &d),
         16 => told(maps.is_monomorphism_in(&mut ws).map(u32::from)),
