@@ -230,8 +230,8 @@ static void lookup(void)
     EXPECT(tiwelzam_offsets_sound(LIST(operations), LIST(offsets), &word) == 0 && word == 1);
     EXPECT(tiwelzam_offsets_sound(LIST(operations), LIST(falling), &word) == 0 && word == 0);
     EXPECT(tiwelzam_layer_at(LIST(operations), LIST(offsets), 1, &start, &length) == 0 && start == 2 && length == 1);
-    EXPECT(tiwelzam_layer_at(LIST(operations), LIST(offsets), 3, &start, &length) == 0 && length == 0);
-    EXPECT(tiwelzam_layer_at(LIST(operations), LIST(falling), 0, &start, &length) == 0 && length == 0);
+    EXPECT(tiwelzam_layer_at(LIST(operations), LIST(offsets), 3, &start, &length) == 0 && start == 0 && length == 0);
+    EXPECT(tiwelzam_layer_at(LIST(operations), LIST(falling), 0, &start, &length) == 0 && start == 0 && length == 0);
 }
 
 static const uint32_t same[] = {0, 1, 2}, ends[] = {0, 2}, equal[] = {1, 1};

@@ -128,7 +128,7 @@ uint32_t tiwelzam_layered_operations(TIWELZAM_DRAWING(), TIWELZAM_ROOM(operation
 uint32_t tiwelzam_offsets_sound(TIWELZAM_LIST(operations), TIWELZAM_LIST(offsets), uint32_t *word);
 
 /* Where one layer stands in the operations: its start and length into *start and *length. For an unknown layer, or
- * where the offsets are not sound, the length is 0. Refuses nothing. */
+ * where the offsets are not sound, both are 0. Refuses nothing. */
 uint32_t tiwelzam_layer_at(TIWELZAM_LIST(operations), TIWELZAM_LIST(offsets), size_t layer, uint32_t *start,
                            uint32_t *length);
 
