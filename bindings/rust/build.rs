@@ -10,6 +10,10 @@ const ARCHIVE: &str = "libexports.a";
 
 fn main() {
     println!("cargo:rerun-if-env-changed=TIWELZAM_LIB");
+    let target = env::var("TARGET").unwrap_or_default();
+    if !target.starts_with("x86_64-") || !target.contains("linux") {
+        fail(&format!("the archive is for x86-64 Linux, not for {target}"));
+    }
     let folder = match env::var_os("TIWELZAM_LIB") {
         Some(folder) => given(PathBuf::from(folder)),
         None => own(),
