@@ -6,12 +6,13 @@
 // inputs, boundary outputs, input values, outputs in document 01's order, workspace, the answer's word.
 use rules::Done;
 use rules::Refusal;
+use rules::Size;
 use rules::Verdict;
 ghost use mathlib.Core.Path.{_≡_};
 ghost use Rattle.rules.specs.Drawing.{drawing, maps, boundary};
 ghost use Rattle.rules.specs.Refusals.{number, refusalOf};
-ghost use Rattle.rules.specs.Faces.{DoneFace, VerdictFace, Told};
-ghost use Rattle.rules.specs.Promises.{CheckDrawing, CheckMaps, CheckBoundary, IsAcyclic};
+ghost use Rattle.rules.specs.Faces.{DoneFace, VerdictFace, SizeFace, SoundFace, LayerAtFace, Told, Measured};
+ghost use Rattle.rules.specs.Promises.{CheckDrawing, CheckMaps, CheckBoundary, SourceConverse, TargetConverse, NodeAdjacencySize, OperationAdjacencySize, IsAcyclic, Layer, LayeredOperations, Validate, IsMonomorphism};
 
 // Document 01's number.
 fn number_of(why: Refusal) -> u32
@@ -63,6 +64,20 @@ fn tell(answer: Verdict, word: &mut u32) -> u32
     }
 }
 
+// The number of a size; the size goes into the lent word.
+fn measure(answer: Size, word: &mut u32) -> u32
+    ensures { λ r. ⌜ Measured answer (now (word .entry)) (now (word .exit)) r ⌝ }
+{
+    match answer {
+        Size::Entries(size) => {
+            *word = size;
+            0
+        }
+        Size::Unsized(why) => number_of(why),
+    }
+}
+
+// 1, 2, 3 of a drawing.
 #[no_mangle]
 pub extern "C" fn tiwelzam_check_drawing(
     w: &[u32],
@@ -77,6 +92,7 @@ pub extern "C" fn tiwelzam_check_drawing(
     done(hypergraph::check::check_drawing(w, x, sl, sv, tl, tv))
 }
 
+// 1 and 4 of two maps.
 #[no_mangle]
 pub extern "C" fn tiwelzam_check_maps(fw: &[u32], wd: u32, fx: &[u32], xd: u32) -> u32
     ensures { λ r. ⌜ DoneFace (CheckMaps (maps (now (fw .entry)) wd (now (fx .entry)) xd)) r ⌝ }
@@ -84,6 +100,7 @@ pub extern "C" fn tiwelzam_check_maps(fw: &[u32], wd: u32, fx: &[u32], xd: u32) 
     done(hypergraph::check::check_maps(fw, wd, fx, xd))
 }
 
+// 1, 2, 3 of a drawing and 12 of its boundary.
 #[no_mangle]
 pub extern "C" fn tiwelzam_check_boundary(
     w: &[u32],
@@ -100,6 +117,81 @@ pub extern "C" fn tiwelzam_check_boundary(
     done(hypergraph::check::check_boundary(w, x, sl, sv, tl, tv, inputs, outputs))
 }
 
+// For each node the operations that list it as a source: n lengths, S values.
+#[no_mangle]
+pub extern "C" fn tiwelzam_source_converse(
+    w: &[u32],
+    x: &[u32],
+    sl: &[u32],
+    sv: &[u32],
+    tl: &[u32],
+    tv: &[u32],
+    lens: &mut [u32],
+    vals: &mut [u32],
+    ws: &mut [u32],
+) -> u32
+    ensures { λ r. ⌜ DoneFace (SourceConverse (drawing (now (w .entry)) (now (x .entry)) (now (sl .entry)) (now (sv .entry)) (now (tl .entry)) (now (tv .entry))) (now (lens .entry)) (now (lens .exit)) (now (vals .entry)) (now (vals .exit)) (now (ws .entry)) (now (ws .exit))) r ⌝ }
+{
+    done(hypergraph::converse::source_converse(w, x, sl, sv, tl, tv, lens, vals, ws))
+}
+
+// For each node the operations that list it as a target: n lengths, T values.
+#[no_mangle]
+pub extern "C" fn tiwelzam_target_converse(
+    w: &[u32],
+    x: &[u32],
+    sl: &[u32],
+    sv: &[u32],
+    tl: &[u32],
+    tv: &[u32],
+    lens: &mut [u32],
+    vals: &mut [u32],
+    ws: &mut [u32],
+) -> u32
+    ensures { λ r. ⌜ DoneFace (TargetConverse (drawing (now (w .entry)) (now (x .entry)) (now (sl .entry)) (now (sv .entry)) (now (tl .entry)) (now (tv .entry))) (now (lens .entry)) (now (lens .exit)) (now (vals .entry)) (now (vals .exit)) (now (ws .entry)) (now (ws .exit))) r ⌝ }
+{
+    done(hypergraph::converse::target_converse(w, x, sl, sv, tl, tv, lens, vals, ws))
+}
+
+// How many values node_adjacency writes.
+#[no_mangle]
+pub extern "C" fn tiwelzam_node_adjacency_size(
+    w: &[u32],
+    x: &[u32],
+    sl: &[u32],
+    sv: &[u32],
+    tl: &[u32],
+    tv: &[u32],
+    word: &mut u32,
+) -> u32
+    ensures { λ r. ⌜ SizeFace (NodeAdjacencySize (drawing (now (w .entry)) (now (x .entry)) (now (sl .entry)) (now (sv .entry)) (now (tl .entry)) (now (tv .entry)))) (now (word .entry)) (now (word .exit)) r ⌝ }
+{
+    measure(
+        hypergraph::adjacency::node_adjacency_size(w, x, sl, sv, tl, tv),
+        word,
+    )
+}
+
+// How many values operation_adjacency writes.
+#[no_mangle]
+pub extern "C" fn tiwelzam_operation_adjacency_size(
+    w: &[u32],
+    x: &[u32],
+    sl: &[u32],
+    sv: &[u32],
+    tl: &[u32],
+    tv: &[u32],
+    word: &mut u32,
+) -> u32
+    ensures { λ r. ⌜ SizeFace (OperationAdjacencySize (drawing (now (w .entry)) (now (x .entry)) (now (sl .entry)) (now (sv .entry)) (now (tl .entry)) (now (tv .entry)))) (now (word .entry)) (now (word .exit)) r ⌝ }
+{
+    measure(
+        hypergraph::adjacency::operation_adjacency_size(w, x, sl, sv, tl, tv),
+        word,
+    )
+}
+
+// Whether no node lies on a directed cycle.
 #[no_mangle]
 pub extern "C" fn tiwelzam_is_acyclic(
     w: &[u32],
@@ -114,4 +206,135 @@ pub extern "C" fn tiwelzam_is_acyclic(
     ensures { λ r. ⌜ VerdictFace (IsAcyclic (drawing (now (w .entry)) (now (x .entry)) (now (sl .entry)) (now (sv .entry)) (now (tl .entry)) (now (tv .entry))) (now (ws .entry)) (now (ws .exit))) (now (word .entry)) (now (word .exit)) r ⌝ }
 {
     tell(graph::acyclic::is_acyclic(w, x, sl, sv, tl, tv, ws), word)
+}
+
+// The operations' orders and marks: m each.
+#[no_mangle]
+pub extern "C" fn tiwelzam_layer(
+    w: &[u32],
+    x: &[u32],
+    sl: &[u32],
+    sv: &[u32],
+    tl: &[u32],
+    tv: &[u32],
+    orders: &mut [u32],
+    marks: &mut [u32],
+    ws: &mut [u32],
+) -> u32
+    ensures { λ r. ⌜ DoneFace (Layer (drawing (now (w .entry)) (now (x .entry)) (now (sl .entry)) (now (sv .entry)) (now (tl .entry)) (now (tv .entry))) (now (orders .entry)) (now (orders .exit)) (now (marks .entry)) (now (marks .exit)) (now (ws .entry)) (now (ws .exit))) r ⌝ }
+{
+    done(layers::layer::layer(w, x, sl, sv, tl, tv, orders, marks, ws))
+}
+
+// The operations layer by layer: m operations, m + 1 offsets, m marks.
+#[no_mangle]
+pub extern "C" fn tiwelzam_layered_operations(
+    w: &[u32],
+    x: &[u32],
+    sl: &[u32],
+    sv: &[u32],
+    tl: &[u32],
+    tv: &[u32],
+    operations: &mut [u32],
+    offsets: &mut [u32],
+    marks: &mut [u32],
+    ws: &mut [u32],
+) -> u32
+    ensures { λ r. ⌜ DoneFace (LayeredOperations (drawing (now (w .entry)) (now (x .entry)) (now (sl .entry)) (now (sv .entry)) (now (tl .entry)) (now (tv .entry))) (now (operations .entry)) (now (operations .exit)) (now (offsets .entry)) (now (offsets .exit)) (now (marks .entry)) (now (marks .exit)) (now (ws .entry)) (now (ws .exit))) r ⌝ }
+{
+    done(layers::layer::layered_operations(w, x, sl, sv, tl, tv, operations, offsets, marks, ws))
+}
+
+// Whether two maps from the first drawing into the second are natural: 5 to 10 if not.
+#[no_mangle]
+pub extern "C" fn tiwelzam_validate(
+    cw: &[u32],
+    cx: &[u32],
+    csl: &[u32],
+    csv: &[u32],
+    ctl: &[u32],
+    ctv: &[u32],
+    dw: &[u32],
+    dx: &[u32],
+    dsl: &[u32],
+    dsv: &[u32],
+    dtl: &[u32],
+    dtv: &[u32],
+    fw: &[u32],
+    wd: u32,
+    fx: &[u32],
+    xd: u32,
+) -> u32
+    ensures { λ r. ⌜ DoneFace (Validate (drawing (now (cw .entry)) (now (cx .entry)) (now (csl .entry)) (now (csv .entry)) (now (ctl .entry)) (now (ctv .entry))) (drawing (now (dw .entry)) (now (dx .entry)) (now (dsl .entry)) (now (dsv .entry)) (now (dtl .entry)) (now (dtv .entry))) (maps (now (fw .entry)) wd (now (fx .entry)) xd)) r ⌝ }
+{
+    done(arrow::validate::validate(
+        cw,
+        cx,
+        csl,
+        csv,
+        ctl,
+        ctv,
+        dw,
+        dx,
+        dsl,
+        dsv,
+        dtl,
+        dtv,
+        fw,
+        wd,
+        fx,
+        xd,
+    ))
+}
+
+// Whether neither map has an entry twice.
+#[no_mangle]
+pub extern "C" fn tiwelzam_is_monomorphism(
+    fw: &[u32],
+    wd: u32,
+    fx: &[u32],
+    xd: u32,
+    ws: &mut [u32],
+    word: &mut u32,
+) -> u32
+    ensures { λ r. ⌜ VerdictFace (IsMonomorphism (maps (now (fw .entry)) wd (now (fx .entry)) xd) (now (ws .entry)) (now (ws .exit))) (now (word .entry)) (now (word .exit)) r ⌝ }
+{
+    tell(
+        arrow::monomorphism::is_monomorphism(fw, wd, fx, xd, ws),
+        word,
+    )
+}
+
+// Whether offsets are sound: one more than the operations, first 0, never falling, last their number.
+#[no_mangle]
+pub extern "C" fn tiwelzam_offsets_sound(operations: &[u32], offsets: &[u32], word: &mut u32) -> u32
+    ensures { λ r. ⌜ SoundFace (now (operations .entry)) (now (offsets .entry)) (now (word .exit)) r ⌝ }
+{
+    if layers::lookup::offsets_sound(operations, offsets) {
+        *word = 1;
+    } else {
+        *word = 0;
+    }
+    0
+}
+
+// Layer i as a part of the operations: where it starts and how long it is.
+#[no_mangle]
+pub extern "C" fn tiwelzam_layer_at(
+    operations: &[u32],
+    offsets: &[u32],
+    i: usize,
+    start: &mut u32,
+    length: &mut u32,
+) -> u32
+    ensures { λ r. ⌜ LayerAtFace (now (operations .entry)) (now (offsets .entry)) i (now (start .exit)) (now (length .exit)) r ⌝ }
+{
+    if layers::lookup::offsets_sound(operations, offsets) & (i < operations.len()) {
+        *start = offsets[i];
+        *length = offsets[i + 1] - offsets[i];
+    } else {
+        *start = 0;
+        *length = 0;
+    }
+    0
 }

@@ -1,7 +1,14 @@
 -- The C face of a call: a refusal is document 01's number, and 0 is none; a yes or no, or a size, is one word more that is lent.
 -- The lent lists are those of the call itself, so a face promises what its call promises.
 use Prim.Native.Nat.{ℕ}
+use mathlib.Core.Bool.{Bool, _&&_, cond}
+use mathlib.Core.List.{List}
 use mathlib.Core.Path.{_≡_}
+use lib.ListN.{length}
+use lib.Dec.{ltb}
+use Rattle.rules.specs.Lists.{at, seg}
+use Rattle.rules.specs.Analysis.{sound, layerPart}
+use Rattle.rules.specs.Promises.{OffsetsSound}
 use Rattle.rules.specs.Refusals.{refusalOf, verdictRefusal, sizeRefusal}
 use Rattle.rules.specs.declared.Done.{Done}
 use Rattle.rules.specs.declared.Verdict.{Verdict}
@@ -42,3 +49,25 @@ pub record SizeFace (P : Size → Type 0) (word word' r : ℕ) : Type 0 where
 pub record Told (answer : Verdict) (word word' r : ℕ) : Type 0 where
   pub number : r ≡ verdictRefusal answer
   pub told : word' ≡ verdictWord answer word
+
+-- what is told of a size alone
+pub record Measured (answer : Size) (word word' r : ℕ) : Type 0 where
+  pub number : r ≡ sizeRefusal answer
+  pub told : word' ≡ sizeWord answer word
+
+-- of the offset test: 1 for sound, 0 for not; it never refuses
+pub record SoundFace (ops offsets : List ℕ) (word' r : ℕ) : Type 0 where
+  pub answer : Bool
+  pub promise : OffsetsSound ops offsets answer
+  pub number : r ≡ 0
+  pub told : word' ≡ cond answer 1 0
+
+-- of the layer lookup: where the part starts and how long it is, 0 and 0 for the empty part of an unknown layer or bad offsets
+abbrev pub layerStart : (ops offsets : List ℕ) (i : ℕ) → ℕ
+layerStart ops offsets i = cond (sound ops offsets && ltb i (length ops)) (at offsets i) 0
+
+pub record LayerAtFace (ops offsets : List ℕ) (i start' length' r : ℕ) : Type 0 where
+  pub number : r ≡ 0
+  pub start : start' ≡ layerStart ops offsets i
+  pub part : seg start' length' ops ≡ layerPart ops offsets i
+  pub long : length' ≡ length (layerPart ops offsets i)

@@ -57,3 +57,4 @@ pub mod Parts
 pub mod Carried
 pub mod Verdicts
 pub mod Monomorphism
+pub mod LookupFace

@@ -1,0 +1,108 @@
+use Prim.Native.Nat.{ℕ, _<_, _+_}
+use mathlib.Core.Bool.{Bool, true, _&&_}
+use mathlib.Core.List.{List}
+use mathlib.Core.Path.{_≡_, sym, ap, _∙_}
+use native.Mathlib.Omega.{arith}
+use lib.ListN.{length}
+use lib.Dec.{ltb}
+use borrow.Author.Tests.{ltb-true}
+use Rattle.rules.specs.Analysis.{sound}
+use Rattle.rules.specs.Facts.Tests.{both}
+use Rattle.rules.specs.Facts.Lookup.{Sound, sound-facts, part-starts, part-ends}
+use Rattle.rules.specs.Facts.LookupFace.{face-there, face-none}
+use borrow.Author.Needs.{needs}
+use Rattle.exports.proofs.tiwelzam_layer_at.Statement.{statement}
+use Rattle.exports.proofs.tiwelzam_layer_at.Tie as tie
+use Rattle.exports.proofs.tiwelzam_layer_at.Reads as reads
+use Rattle.exports.proofs.tiwelzam_layer_at.Lts as lts
+use Rattle.layers.proofs.lookup.offsets_sound.Reads as offsets-sound-reads
+
+module _ (c : tie.After-offsets-sound) where
+  abbrev s : tie.Start
+  s = c .before .before .before
+
+  abbrev ops : List ℕ
+  ops = s .args .operations .now
+
+  abbrev offs : List ℕ
+  offs = s .args .offsets .now
+
+  abbrev i : ℕ
+  i = s .args .i
+
+  same : (c .offsets-sound .result && ltb i (length ops)) ≡ (sound ops offs && ltb i (length ops))
+  same = ap (λ (r : Bool). r && ltb i (length ops)) (c .offsets-sound .ensures .answer)
+
+-- the offsets are sound and the layer is known
+module _ (c : tie.Then1) where
+  abbrev o : tie.After-offsets-sound
+  o = c .before
+
+  holds : (sound (ops o) (offs o) && ltb (i o) (length (ops o))) ≡ true
+  holds = sym (same o) ∙ c .if1 .taken
+
+  facts : Sound (ops o) (offs o)
+  facts = sound-facts (ops o) (offs o) ((both (sound (ops o) (offs o)) (ltb (i o) (length (ops o))) holds) .0)
+
+  low : i o < length (ops o)
+  low = ltb-true (i o) (length (ops o)) ((both (sound (ops o) (offs o)) (ltb (i o) (length (ops o))) holds) .1)
+
+-- src/lib.rt:311:8
+offsets-sound-requires : tie.Need-offsets-sound-requires
+offsets-sound-requires c κs = search needs
+
+-- src/lib.rt:312:18
+mul-start : tie.Need-mul-start
+mul-start c = omega (arith, low c, facts c .long)
+
+-- src/lib.rt:312:18
+shared-slice-read-start : tie.Need-shared-slice-read-start
+shared-slice-read-start c = omega (arith, low (c .before), facts (c .before) .long)
+
+-- src/lib.rt:313:27
+add-length : tie.Need-add-length
+add-length c = omega (arith, low (c .before))
+
+-- src/lib.rt:313:19
+mul-length : tie.Need-mul-length
+mul-length c = omega (arith, low (c .before), facts (c .before) .long)
+
+-- src/lib.rt:313:19
+shared-slice-read-length : tie.Need-shared-slice-read-length
+shared-slice-read-length c = omega (arith, low (c .before .before), facts (c .before .before) .long)
+
+-- src/lib.rt:313:36
+mul-length-2 : tie.Need-mul-length-2
+mul-length-2 c = omega (arith, low (c .before .before), facts (c .before .before) .long)
+
+-- src/lib.rt:313:36
+shared-slice-read-length-2 : tie.Need-shared-slice-read-length-2
+shared-slice-read-length-2 c = omega (arith, low (c .before .before .before), facts (c .before .before .before) .long)
+
+-- src/lib.rt:313:19
+sub-length : tie.Need-sub-length
+sub-length c = part-starts (facts (c .before .before .before)) (i (o (c .before .before .before))) (low (c .before .before .before))
+
+-- src/lib.rt:301:1
+returns : tie.Need-returns
+returns c = let k = o (c .before .before .before) in face-there (ops k) (offs k) (i k) (holds (c .before .before .before))
+
+-- src/lib.rt:301:1
+returns-2 : tie.Need-returns-2
+returns-2 c = let k = c .before in face-none (ops k) (offs k) (i k) (sym (same k) ∙ c .if1 .left)
+
+pub tiwelzam-layer-at-spec : {M : Type 1} → statement M
+tiwelzam-layer-at-spec =
+    tie.close
+    (tie.spec
+    offsets-sound-requires
+    mul-start
+    shared-slice-read-start
+    add-length
+    mul-length
+    shared-slice-read-length
+    mul-length-2
+    shared-slice-read-length-2
+    sub-length
+    returns
+    returns-2)
