@@ -12,7 +12,7 @@ ghost use mathlib.Core.Path.{_≡_};
 ghost use Rattle.rules.specs.Drawing.{drawing, maps, boundary};
 ghost use Rattle.rules.specs.Refusals.{number, refusalOf};
 ghost use Rattle.rules.specs.Faces.{DoneFace, VerdictFace, SizeFace, SoundFace, LayerAtFace, Told, Measured};
-ghost use Rattle.rules.specs.Promises.{CheckDrawing, CheckMaps, CheckBoundary, SourceConverse, TargetConverse, NodeAdjacencySize, OperationAdjacencySize, IsAcyclic, Layer, LayeredOperations, Validate, IsMonomorphism};
+ghost use Rattle.rules.specs.Promises.{CheckDrawing, CheckMaps, CheckBoundary, SourceConverse, TargetConverse, NodeAdjacency, OperationAdjacency, NodeAdjacencySize, OperationAdjacencySize, IsAcyclic, Layer, LayeredOperations, Validate, IsMonomorphism, IsConvexSubgraph};
 
 // Document 01's number.
 fn number_of(why: Refusal) -> u32
@@ -151,6 +151,42 @@ pub extern "C" fn tiwelzam_target_converse(
     ensures { λ r. ⌜ DoneFace (TargetConverse (drawing (now (w .entry)) (now (x .entry)) (now (sl .entry)) (now (sv .entry)) (now (tl .entry)) (now (tv .entry))) (now (lens .entry)) (now (lens .exit)) (now (vals .entry)) (now (vals .exit)) (now (ws .entry)) (now (ws .exit))) r ⌝ }
 {
     done(hypergraph::converse::target_converse(w, x, sl, sv, tl, tv, lens, vals, ws))
+}
+
+// The nodes that each node leads to: n lengths, and as many values as node_adjacency_size says.
+#[no_mangle]
+pub extern "C" fn tiwelzam_node_adjacency(
+    w: &[u32],
+    x: &[u32],
+    sl: &[u32],
+    sv: &[u32],
+    tl: &[u32],
+    tv: &[u32],
+    lens: &mut [u32],
+    vals: &mut [u32],
+    ws: &mut [u32],
+) -> u32
+    ensures { λ r. ⌜ DoneFace (NodeAdjacency (drawing (now (w .entry)) (now (x .entry)) (now (sl .entry)) (now (sv .entry)) (now (tl .entry)) (now (tv .entry))) (now (lens .entry)) (now (lens .exit)) (now (vals .entry)) (now (vals .exit)) (now (ws .entry)) (now (ws .exit))) r ⌝ }
+{
+    done(hypergraph::adjacency::node_adjacency(w, x, sl, sv, tl, tv, lens, vals, ws))
+}
+
+// The operations that each operation leads to: m lengths, and as many values as operation_adjacency_size says.
+#[no_mangle]
+pub extern "C" fn tiwelzam_operation_adjacency(
+    w: &[u32],
+    x: &[u32],
+    sl: &[u32],
+    sv: &[u32],
+    tl: &[u32],
+    tv: &[u32],
+    lens: &mut [u32],
+    vals: &mut [u32],
+    ws: &mut [u32],
+) -> u32
+    ensures { λ r. ⌜ DoneFace (OperationAdjacency (drawing (now (w .entry)) (now (x .entry)) (now (sl .entry)) (now (sv .entry)) (now (tl .entry)) (now (tv .entry))) (now (lens .entry)) (now (lens .exit)) (now (vals .entry)) (now (vals .exit)) (now (ws .entry)) (now (ws .exit))) r ⌝ }
+{
+    done(hypergraph::adjacency::operation_adjacency(w, x, sl, sv, tl, tv, lens, vals, ws))
 }
 
 // How many values node_adjacency writes.
@@ -301,6 +337,54 @@ pub extern "C" fn tiwelzam_is_monomorphism(
 {
     tell(
         arrow::monomorphism::is_monomorphism(fw, wd, fx, xd, ws),
+        word,
+    )
+}
+
+// Whether the group that two maps select is convex.
+#[no_mangle]
+pub extern "C" fn tiwelzam_is_convex_subgraph(
+    cw: &[u32],
+    cx: &[u32],
+    csl: &[u32],
+    csv: &[u32],
+    ctl: &[u32],
+    ctv: &[u32],
+    dw: &[u32],
+    dx: &[u32],
+    dsl: &[u32],
+    dsv: &[u32],
+    dtl: &[u32],
+    dtv: &[u32],
+    fw: &[u32],
+    wd: u32,
+    fx: &[u32],
+    xd: u32,
+    ws: &mut [u32],
+    word: &mut u32,
+) -> u32
+    ensures { λ r. ⌜ VerdictFace (IsConvexSubgraph (drawing (now (cw .entry)) (now (cx .entry)) (now (csl .entry)) (now (csv .entry)) (now (ctl .entry)) (now (ctv .entry))) (drawing (now (dw .entry)) (now (dx .entry)) (now (dsl .entry)) (now (dsv .entry)) (now (dtl .entry)) (now (dtv .entry))) (maps (now (fw .entry)) wd (now (fx .entry)) xd) (now (ws .entry)) (now (ws .exit))) (now (word .entry)) (now (word .exit)) r ⌝ }
+{
+    tell(
+        convexity::convex::is_convex_subgraph(
+            cw,
+            cx,
+            csl,
+            csv,
+            ctl,
+            ctv,
+            dw,
+            dx,
+            dsl,
+            dsv,
+            dtl,
+            dtv,
+            fw,
+            wd,
+            fx,
+            xd,
+            ws,
+        ),
         word,
     )
 }

@@ -26,6 +26,6 @@ pub fn is_injective(entries: &[u32], seen: &mut [u32]) -> bool
     array::fill(seen, d, 0);
     array::count_values(seen, d, entries);
     let once = array::all_below(seen, 2);
-    array::fill(seen, d, 0);
+    array::fill(seen, d, 0); // also where an entry stands twice
     once
 }

@@ -30,6 +30,7 @@ pub mod Standing
 pub mod Incident
 pub mod ConverseTable
 pub mod Sizes
+pub mod Flat
 pub mod WalkTells
 pub mod Layers
 pub mod LayerSort
@@ -41,6 +42,12 @@ pub mod Worked
 pub mod Refusing
 pub mod Acyclic
 pub mod Traps
+pub mod Search
+pub mod Roads
+pub mod Searching
+pub mod Unselected
+pub mod TwoTables
+pub mod RoadDecides
 pub mod Determined
 pub mod WorkedCalls
 pub mod WorkedText
@@ -58,3 +65,5 @@ pub mod Carried
 pub mod Verdicts
 pub mod Monomorphism
 pub mod LookupFace
+pub mod Demand3
+pub mod ConvexDecides

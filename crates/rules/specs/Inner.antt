@@ -9,6 +9,8 @@ pub mod IncidenceTable
 pub mod Checks
 pub mod Acyclic
 pub mod Layering
+pub mod Search
+pub mod Selected
 pub mod LayerSort
 pub mod Decides
 pub mod Arrow

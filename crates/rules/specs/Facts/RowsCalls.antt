@@ -2,9 +2,9 @@
 use Prim.Native.Nat.{ℕ, _+_, _-_, _≤_}
 use native.Mathlib.Omega.{arith}
 use mathlib.Core.Bool.{Bool, true, false, _&&_}
-use mathlib.Core.List.{List, [], _∷_, _++_}
+use mathlib.Core.List.{List, [], _∷_, _++_, append-nil}
 use mathlib.Core.Path.{_≡_, refl, sym, ap, _∙_}
-use lib.ListN.{length, drop, replicate}
+use lib.ListN.{drop-of-length-le, length, drop, replicate}
 use lib.Seq.{drop-append-add, drop-drop}
 use lib.Dec.{leb}
 use borrow.Author.Tests.{leb-true}
@@ -47,6 +47,10 @@ front-cleared k words t ws h l = ap (λ (r : List ℕ). replicate words 0 ++ r) 
         let f : k + (words - k) ≡ words = omega arith in
         ap (λ (j : ℕ). drop j (t ++ drop k ws)) e ∙ drop-append-add t (drop k ws) (words - k) ∙ drop-drop (words - k) k ws ∙ rw f
 
+-- all words cleared, of a part of them that was lent
+pub all-cleared : (words : ℕ) (ws ws' : List ℕ) → length ws ≡ words → ws' ≡ filled (length ws) 0 ws → ws' ≡ replicate words 0
+all-cleared words ws ws' h c = c ∙ rw (drop-of-length-le ws {i = length ws} (omega arith), h) (append-nil (replicate words 0))
+
 -- the rooms are looked at
 module _ (rows : ℕ → List ℕ) (k need₁ room₁ need₂ room₂ words room : ℕ) (lens lens' vals vals' ws ws' : List ℕ) where
   pub rows-short : roomsFit need₁ room₁ need₂ room₂ words room ≡ false → WritesRows rows k (roomsRefusal need₁ room₁ need₂ room₂ words room) words lens lens vals vals ws ws (Faulty ShortRoom)
@@ -86,3 +90,9 @@ module _ (d : Drawing) (rows : ℕ → List ℕ) (k need₁ room₁ need₂ room
       → WritesRows rows k (twoOutputsRefusal d need₁ room₁ need₂ room₂ room) (workspaceNeed d) lens lens' vals vals' ws ws' r
   unfolding drawingRefusal twoOutputsRefusal roomsRefusal
   rows-fine e p = record { refusal = p .refusal ∙ sym (first-behind checks rooms e); lengths = p .lengths; values = p .values; workspace = p .workspace }
+
+  -- with words and a need that are known to be these
+  pub rows-sized : {lens' vals' ws' : List ℕ} {r : Done} (words need : ℕ) → drawingRefusal d ≡ 0 → words ≡ workspaceNeed d → need ≡ need₂
+      → WritesRows rows k (roomsRefusal need₁ room₁ need room₂ words room) words lens lens' vals vals' ws ws' r
+      → WritesRows rows k (twoOutputsRefusal d need₁ room₁ need₂ room₂ room) (workspaceNeed d) lens lens' vals vals' ws ws' r
+  rows-sized words need e p q h = rows-fine e (rw (p, q) at h)

@@ -10,6 +10,7 @@ use lib.Seq.{length-take-le}
 use lib.Dec.{eqb}
 use borrow.Author.Tests.{eqb-true, eqb-false, ne-eqb}
 use Rattle.rules.specs.declared.Refusal.{Refusal}
+use Rattle.rules.specs.declared.Size.{Size}
 use Rattle.rules.specs.declared.Size.the-variants.{Entries, Unsized}
 use Rattle.rules.specs.Lists.{_∈_, at, sum, concat, range, rowEntries}
 use Rattle.rules.specs.Inner.Words.{owners, listing, products, listings, count}
@@ -21,7 +22,7 @@ use Rattle.rules.specs.Facts.Counts.{count-le}
 use Rattle.rules.specs.Facts.ConverseTable.{listing-zero, converse-length}
 use Rattle.rules.specs.Calls.{drawingRefusal}
 use Rattle.rules.specs.Inner.Loops.{Counted}
-use Rattle.rules.specs.Refusals.{number}
+use Rattle.rules.specs.Refusals.{number, sizeRefusal}
 use Rattle.rules.specs.Promises.{RowsSize}
 
 -- sums over lists
@@ -148,6 +149,13 @@ module _ (d : Drawing) (a : Accepted d) where
 
   pub op-size-fits : listings (d .sourceValues) (d .targetValues) ≤ mostEntries
   op-size-fits = omega (arith, sum-most (λ v. count v (d .sourceValues)) (length (d .sourceValues)) (d .targetValues) (λ v. count-le v (d .sourceValues)), square (length (d .targetValues)) (length (d .sourceValues)) (a .targets .room) (a .sources .room))
+
+-- what a size tells, at each arm
+pub unsized-number : {k : ℕ} (r : Size) (why : Refusal) → sizeRefusal r ≡ k → r ≡ Unsized why → number why ≡ k
+unsized-number r why e q = sym (ap sizeRefusal q) ∙ e
+
+pub sized-none : {k : ℕ} (r : Size) (n : ℕ) → sizeRefusal r ≡ k → r ≡ Entries n → k ≡ 0
+sized-none r n e q = sym e ∙ ap sizeRefusal q
 
 -- The promise of a call that gives a size, at each of its returns.
 module _ (d : Drawing) (rows : ℕ → List ℕ) (k : ℕ) where

@@ -1,10 +1,10 @@
 -- Rows one behind the other: tables of offsets and entries, and rows that are put into an output.
-use Prim.Native.Nat.{ℕ, _+_, _-_, _<_, _≤_}
+use Prim.Native.Nat.{ℕ, _+_, _-_, _<_, _≤_, _^_}
 use mathlib.Core.List.{List, map, _++_}
 use mathlib.Core.Path.{_≡_}
 use lib.ListN.{length, getD, take, drop}
 use Rattle.rules.specs.Analysis.{converse}
-use Rattle.rules.specs.Lists.{sum, seg, concat, rowLengths, rowEntries}
+use Rattle.rules.specs.Lists.{_∈_, sum, seg, concat, rowLengths, rowEntries}
 
 -- row i: the entries between two offsets
 unfoldable pub rowOf : List ℕ → List ℕ → ℕ → List ℕ
@@ -42,7 +42,21 @@ pub record Put (from : ℕ) (new l l' : List ℕ) (to : ℕ) : Type 0 where
 unfoldable pub flatRow : (aoff avals boff bvals : List ℕ) → ℕ → List ℕ
 flatRow aoff avals boff bvals i = concat (map (rowOf boff bvals) (rowOf aoff avals i))
 
+-- two tables that can be joined so: the first has k rows, and its entries are numbers of the second's rows
+pub record Joinable (k : ℕ) (aoff avals boff bvals : List ℕ) : Type 0 where
+  pub count : length aoff ≡ k + 1
+  pub outer : Sections aoff avals
+  pub inner : Sections boff bvals
+  pub named : (u : ℕ) → u ∈ avals → u + 1 < length boff
+  pub few : length (rowEntries (flatRow aoff avals boff bvals) k) < 2 ^ 32
+
 -- k rows put into two outputs, as lengths and as entries
 pub record PutRows (rows : ℕ → List ℕ) (k : ℕ) (lens lens' vals vals' : List ℕ) : Type 0 where
   pub lengths : lens' ≡ putAt 0 (rowLengths rows k) lens
   pub entries : vals' ≡ putAt 0 (rowEntries rows k) vals
+
+-- The front of a workspace: the table of the sources' converse, then where each operation's targets start.
+pub record Tables (n : ℕ) (sl sv tl ws : List ℕ) : Type 0 where
+  pub fits : n + 1 + length sv + (length tl + 1) ≤ length ws
+  pub sources : Tabled (converse sl sv) n (take (n + 1) ws) (seg (n + 1) (length sv) ws)
+  pub targets : Starts tl (seg (n + 1 + length sv) (length tl + 1) ws)

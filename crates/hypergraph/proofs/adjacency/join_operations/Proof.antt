@@ -1,0 +1,116 @@
+use Prim.Native.Nat.{ℕ, _+_, _-_}
+use native.Mathlib.Omega.{arith}
+use lib.ListN.{length}
+use borrow.Author.Needs.{needs}
+use Rattle.hypergraph.proofs.adjacency.join_operations.Statement.{statement}
+use Rattle.hypergraph.proofs.adjacency.join_operations.Tie as tie
+use Rattle.hypergraph.proofs.adjacency.join_operations.Reads as reads
+use Rattle.hypergraph.proofs.adjacency.join_operations.Lts as lts
+use Rattle.indexed_coproduct.proofs.flatmap.flatmap.Reads as flatmap-reads
+use Rattle.rules.specs.Drawing.{Drawing, drawing}
+use Rattle.rules.specs.Facts.Flat.{op-joinable, op-rows, op-room}
+
+module _ (s : tie.Start) where
+  abbrev d : Drawing
+  d = drawing (s .args .w .now) (s .args .x .now) (s .args .sl .now) (s .args .sv .now) (s .args .tl .now) (s .args .tv .now)
+
+  -- the words of the parts
+  abbrev p : ℕ
+  p = length (s .args .w .now) + 1 + length (s .args .sv .now) - (length (s .args .w .now) + 1)
+
+  abbrev q : ℕ
+  q = length (s .args .w .now) + 1 + length (s .args .sv .now) + (length (s .args .tl .now) + 1) - (length (s .args .w .now) + 1 + length (s .args .sv .now))
+
+-- src/adjacency.rt:113:17
+add-items : tie.Need-add-items
+add-items c = search needs
+
+-- src/adjacency.rt:114:17
+add-table : tie.Need-add-table
+add-table c = search needs
+
+-- src/adjacency.rt:115:24
+add-end : tie.Need-add-end
+add-end c = search needs
+
+-- src/adjacency.rt:115:15
+add-end-2 : tie.Need-add-end-2
+add-end-2 c = search needs
+
+-- src/adjacency.rt:116:50
+mul-flatmap : tie.Need-mul-flatmap
+mul-flatmap c = search needs
+
+-- src/adjacency.rt:116:50
+sub-flatmap : tie.Need-sub-flatmap
+sub-flatmap c = search needs
+
+-- src/adjacency.rt:116:50
+part-flatmap-start : tie.Need-part-flatmap-start
+part-flatmap-start c = search needs
+
+-- src/adjacency.rt:116:50
+part-flatmap-end : tie.Need-part-flatmap-end
+part-flatmap-end c = omega (arith, c .before .before .before .before .before .before .before .before .before .pre .1 .0 .fits)
+
+-- src/adjacency.rt:116:71
+slice-aggregate-flatmap : tie.Need-slice-aggregate-flatmap
+slice-aggregate-flatmap c = search needs
+
+-- src/adjacency.rt:116:85
+mul-flatmap-2 : tie.Need-mul-flatmap-2
+mul-flatmap-2 c = search needs
+
+-- src/adjacency.rt:116:85
+sub-flatmap-2 : tie.Need-sub-flatmap-2
+sub-flatmap-2 c = search needs
+
+-- src/adjacency.rt:116:85
+part-flatmap-start-2 : tie.Need-part-flatmap-start-2
+part-flatmap-start-2 c = search needs
+
+-- src/adjacency.rt:116:85
+part-flatmap-end-2 : tie.Need-part-flatmap-end-2
+part-flatmap-end-2 c = omega (arith, c .before .before .before .before .before .before .before .before .before .before .before .pre .1 .0 .fits)
+
+-- src/adjacency.rt:116:5
+flatmap-requires : tie.Need-flatmap-requires
+flatmap-requires c κs =
+    let s = c .before .before .before .before .before .before .before .before .before .before .before .before .before .before in
+    (op-joinable (d s) (s .pre .0) (p s) (q s) (s .args .ws .now) (omega arith) (omega arith) (s .pre .1 .0), (s .pre .1 .1 .0, omega (arith, op-room (d s) (s .pre .0) (p s) (q s) (s .args .ws .now) (omega arith) (omega arith) (s .pre .1 .0), s .pre .1 .1 .1)))
+
+-- src/adjacency.rt:97:1
+same-length : tie.Need-same-length
+same-length c = search needs
+
+-- src/adjacency.rt:97:1
+same-length-2 : tie.Need-same-length-2
+same-length-2 c = search needs
+
+-- src/adjacency.rt:97:1
+returns : tie.Need-returns
+returns c =
+    let s = c .before .before .before .before .before .before .before .before .before .before .before .before .before .before .before .before .before .before .before in
+    op-rows (d s) (s .pre .0) (p s) (q s) (s .args .ws .now) (omega arith) (omega arith) (s .pre .1 .0) (c .before .before .before .before .flatmap .ensures)
+
+pub join-operations-spec : {M : Type 1} → statement M
+join-operations-spec =
+    tie.close
+    (tie.spec
+    add-items
+    add-table
+    add-end
+    add-end-2
+    mul-flatmap
+    sub-flatmap
+    part-flatmap-start
+    part-flatmap-end
+    slice-aggregate-flatmap
+    mul-flatmap-2
+    sub-flatmap-2
+    part-flatmap-start-2
+    part-flatmap-end-2
+    flatmap-requires
+    same-length
+    same-length-2
+    returns)
