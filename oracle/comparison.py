@@ -16,6 +16,7 @@ from shrink import smallest
 FOLDER = os.path.dirname(os.path.abspath(__file__))
 ORACLE = os.path.join(FOLDER, "target", "oracle")
 BLOCK = 500  # cases for one run of a program
+SHRINKING = 1000  # tries to make a case smaller
 
 
 # ---- Answers ------------------------------------------------------------------------------------
@@ -63,18 +64,29 @@ def shown(case, pairs, names):
 
 # ---- Comparing with the oracle ------------------------------------------------------------------
 
-def compare_block(answers, name, seed, block):
-    """How many cases of a block were compared, and for each difference the smallest case found."""
+def compare_block(answers, name, left_out, seed, block):
+    """How many cases of a block were compared, and the smallest case found for the first difference; the others
+    are named."""
+    def expected_answers(cases):
+        return [without(lines, left_out) for lines in oracle_answers(cases)]
+
     def differs(case):
-        return differing_lines(oracle_answers([case])[0], answers([case])[0])
+        return differing_lines(expected_answers([case])[0], answers([case])[0])
 
     cases = [case_at(seed, index) for index in block]
     found = []
-    for case, expected, given in zip(cases, oracle_answers(cases), answers(cases)):
-        if expected != given:
-            small = smallest(case, differs)
+    for case, expected, given in zip(cases, expected_answers(cases), answers(cases)):
+        if expected != given and not found:
+            small = smallest(case, differs, SHRINKING)
             found.append(shown(small, differs(small), ("oracle", name)))
+        elif expected != given:
+            found.append(f"case {case.name} differs too")
     return len(cases), found
+
+
+def without(lines, calls):
+    """The answer lines but for those of these calls."""
+    return [line for line in lines if line.split()[0] not in calls]
 
 
 def worker_signals():
@@ -83,8 +95,9 @@ def worker_signals():
     signal.signal(signal.SIGTERM, signal.SIG_DFL)
 
 
-def compare(answers, name):
-    """Compares `answers` (cases to answer lines) with the oracle; the command line has COUNT and SEED."""
+def compare(answers, name, left_out=()):
+    """Compares `answers` (cases to answer lines) with the oracle; the command line has COUNT and SEED.
+    Lines of calls that are left out are not expected."""
     if len(sys.argv) != 3:
         sys.exit(f"usage: {sys.argv[0]} COUNT SEED")
     need_oracle()
@@ -96,7 +109,7 @@ def compare(answers, name):
         signal.signal(stop, signal.default_int_handler)  # raises KeyboardInterrupt
     with multiprocessing.get_context("fork").Pool(initializer=worker_signals) as pool:
         try:
-            for compared, found in pool.imap(functools.partial(compare_block, answers, name, seed), blocks):
+            for compared, found in pool.imap(functools.partial(compare_block, answers, name, left_out, seed), blocks):
                 done += compared
                 different += len(found)
                 for text in found:
