@@ -37,3 +37,4 @@ pub mod Operating
 pub mod Evaluating
 pub mod Running
 pub mod EvalCall
+pub mod ReadsFirst

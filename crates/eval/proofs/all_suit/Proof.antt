@@ -1,3 +1,12 @@
+use Rattle.rules.specs.Facts.EvalCall.{all-range, all-fails}
+use Rattle.rules.specs.Inner.Evaluating.{suitsBy}
+use borrow.Author.Tests.{not-true, not-false}
+use borrow.Author.Count.{below-more}
+use lib.ListN.{length}
+use native.Mathlib.Omega.{arith}
+use mathlib.Core.Path.{_≡_, sym, _∙_}
+use mathlib.Core.Bool.{true}
+use Prim.Native.Nat.{ℕ, _≤_, _<_, _-_}
 use borrow.Author.Needs.{needs}
 use Rattle.eval.proofs.all_suit.Statement.{statement}
 use Rattle.eval.proofs.all_suit.Tie as tie
@@ -6,14 +15,14 @@ use Rattle.eval.proofs.all_suit.Lts as lts
 use Rattle.operation.proofs.suits.Reads as suits-reads
 
 abbrev Inv-loop : tie.InvT-loop
-Inv-loop x sl tl e₀ e = ?
+Inv-loop x sl tl e₀ e = (e ≤ length x) × ((k : ℕ) → k < e → suitsBy x sl tl k ≡ true)
 
 abbrev μ-loop : tie.MeasureT-loop
-μ-loop x sl tl e₀ e = ?
+μ-loop x sl tl e₀ e = length x - e
 
 -- src/lib.rt:24:5
 loop-holds : tie.Need-loop-holds Inv-loop μ-loop
-loop-holds c = search needs
+loop-holds c = (omega arith, λ k h. absurd (omega arith))
 
 -- src/lib.rt:25:30
 mul-suits : tie.Need-mul-suits Inv-loop μ-loop
@@ -33,7 +42,7 @@ shared-slice-read-suits-2 c = search needs
 
 -- src/lib.rt:25:36
 cast-suits : tie.Need-cast-suits Inv-loop μ-loop
-cast-suits c = search needs
+cast-suits c = omega (arith, c .shared-slice-known5 .given (c .before .before .before .loop .e))
 
 -- src/lib.rt:25:52
 mul-suits-3 : tie.Need-mul-suits-3 Inv-loop μ-loop
@@ -45,7 +54,7 @@ shared-slice-read-suits-3 c = search needs
 
 -- src/lib.rt:25:52
 cast-suits-2 : tie.Need-cast-suits-2 Inv-loop μ-loop
-cast-suits-2 c = search needs
+cast-suits-2 c = omega (arith, c .shared-slice-known6 .given (c .before .before .before .before .loop .e))
 
 -- src/lib.rt:25:13
 suits-requires : tie.Need-suits-requires Inv-loop μ-loop
@@ -53,7 +62,7 @@ suits-requires c κs = search needs
 
 -- src/lib.rt:26:13
 returns : tie.Need-returns Inv-loop μ-loop
-returns c = search needs
+returns c = let s = c .before .before .before .before .before .before .before .before .before .before in sym (all-fails (suitsBy (s .args .x .now) (s .args .sl .now) (s .args .tl .now)) (length (s .args .x .now)) (c .before .before .before .before .before .before .loop .e) (c .before .before .before .before .before .loop-test .taken) (sym (c .before .suits .ensures) ∙ not-true (c .before .suits .result) (c .if1 .taken)))
 
 -- src/lib.rt:28:9
 add-e : tie.Need-add-e Inv-loop μ-loop
@@ -65,11 +74,11 @@ loop-less c = search needs
 
 -- src/lib.rt:24:5
 loop-again : tie.Need-loop-again Inv-loop μ-loop
-loop-again c = search needs
+loop-again c = (omega arith, below-more _ _ (c .before .before .before .before .before .before .loop .inv .1) (sym (c .before .suits .ensures) ∙ not-false (c .before .suits .result) (c .if1 .left)))
 
 -- src/lib.rt:19:1
 returns-2 : tie.Need-returns-2 Inv-loop μ-loop
-returns-2 c = search needs
+returns-2 c = let s = c .before .before .before .before .before in sym (all-range (suitsBy (s .args .x .now) (s .args .sl .now) (s .args .tl .now)) (length (s .args .x .now)) (λ k h. c .before .loop .inv .1 k (omega arith)))
 
 pub all-suit-spec : {M : Type 1} → statement M
 all-suit-spec =

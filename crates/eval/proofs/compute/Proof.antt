@@ -1,3 +1,11 @@
+use Rattle.rules.specs.Facts.EvalCall.{computed}
+use Rattle.rules.specs.Facts.Segments.{seg-length}
+use Rattle.rules.specs.Drawing.{Drawing, Boundary, drawing, boundary, nodeCount, opCount}
+use Rattle.rules.specs.Lists.{seg}
+use lib.ListN.{length, take, drop}
+use native.Mathlib.Omega.{arith}
+use mathlib.Core.Path.{_≡_, refl, sym, ap, _∙_}
+use Prim.Native.Nat.{ℕ, _+_, _-_, _*_, _≤_, _<_}
 use borrow.Author.Needs.{needs}
 use Rattle.eval.proofs.compute.Statement.{statement}
 use Rattle.eval.proofs.compute.Tie as tie
@@ -6,6 +14,13 @@ use Rattle.eval.proofs.compute.Lts as lts
 use Rattle.eval.proofs.load.Reads as load-reads
 use Rattle.memory.proofs.gather.Reads as gather-reads
 use Rattle.pass.proofs.run_layers.Reads as run-layers-reads
+
+module _ (s : tie.Start) where
+  abbrev d : Drawing
+  d = drawing (s .args .w .now) (s .args .x .now) (s .args .sl .now) (s .args .sv .now) (s .args .tl .now) (s .args .tv .now)
+
+  abbrev b : Boundary
+  b = boundary (s .args .inputs .now) (s .args .outputs .now)
 
 -- src/lib.rt:119:16
 mul-base : tie.Need-mul-base
@@ -21,7 +36,7 @@ add-room c = search needs
 
 -- src/lib.rt:121:5
 load-requires : tie.Need-load-requires
-load-requires c κs = search needs
+load-requires c κs = let s = c .before .before .before .before .before .before .before .before .before .before .before .before in (s .pre .0, s .pre .1 .0, s .pre .1 .1 .0, s .pre .1 .1 .1 .0)
 
 -- src/lib.rt:122:5
 run-layers-requires : tie.Need-run-layers-requires
@@ -45,7 +60,9 @@ part-gather-end c = search needs
 
 -- src/lib.rt:123:5
 gather-requires : tie.Need-gather-requires
-gather-requires c κs = search needs
+gather-requires c κs = let s = c .before .before .before .before .before .before .before .before .before .before .before .before .before .before .before .before .before .before .before .before .before .before in
+    let m = opCount (d s) in
+    (s .pre .1 .1 .1 .1, λ u i. rw (seg-length (6 * m + 1) (6 * m + 1 + nodeCount (d s) - (6 * m + 1)) (c .before .before .before .before .before .run-layers .last .0) (omega (arith, c .before .before .before .before .before .run-layers .ensures .long, c .before .before .before .before .before .before .before .before .before .load .ensures .runs .long))) (omega (arith, s .pre .1 .1 .1 .0 .outputsBelow u i)))
 
 -- src/lib.rt:100:1
 same-length : tie.Need-same-length
@@ -57,7 +74,9 @@ same-length-2 c = search needs
 
 -- src/lib.rt:100:1
 returns : tie.Need-returns
-returns c = search needs
+returns c = let s = c .before .before .before .before .before .before .before .before .before .before .before .before .before .before .before .before .before .before .before .before .before .before .before .before .before in
+    let m = opCount (d s) in
+    (c .before .before .before .before .before .before .before .before .run-layers .ensures .long ∙ c .before .before .before .before .before .before .before .before .before .before .before .before .load .ensures .long, computed (d s) (b s) (s .args .values .now) (s .args .ws .now) (c .before .before .before .before .before .before .before .before .before .before .before .before .load .last .0) (c .before .before .before .before .before .before .before .before .run-layers .last .0) (c .before .before .gather .last .0) (c .before .before .before .before .before .before .before .before .before .before .before .before .load .ensures) (c .before .before .before .before .before .before .before .before .run-layers .ensures) (6 * m + 1 + nodeCount (d s) - (6 * m + 1)) (omega arith) (c .before .before .gather .ensures))
 
 pub compute-spec : {M : Type 1} → statement M
 compute-spec =

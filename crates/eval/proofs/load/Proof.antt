@@ -1,3 +1,11 @@
+use Rattle.rules.specs.Facts.EvalCall.{loaded}
+use Rattle.rules.specs.Facts.Segments.{seg-length}
+use Rattle.rules.specs.Drawing.{Drawing, Boundary, drawing, boundary, nodeCount, opCount}
+use Rattle.rules.specs.Lists.{seg}
+use lib.ListN.{length, take, drop}
+use native.Mathlib.Omega.{arith}
+use mathlib.Core.Path.{_≡_, refl, sym, ap, _∙_}
+use Prim.Native.Nat.{ℕ, _+_, _-_, _*_, _≤_, _<_}
 use borrow.Author.Needs.{needs}
 use Rattle.eval.proofs.load.Statement.{statement}
 use Rattle.eval.proofs.load.Tie as tie
@@ -5,6 +13,13 @@ use Rattle.eval.proofs.load.Reads as reads
 use Rattle.eval.proofs.load.Lts as lts
 use Rattle.eval.proofs.prepare.Reads as prepare-reads
 use Rattle.memory.proofs.scatter.Reads as scatter-reads
+
+module _ (s : tie.Start) where
+  abbrev d : Drawing
+  d = drawing (s .args .w .now) (s .args .x .now) (s .args .sl .now) (s .args .sv .now) (s .args .tl .now) (s .args .tv .now)
+
+  abbrev b : Boundary
+  b = boundary (s .args .inputs .now) (s .args .outputs .now)
 
 -- src/lib.rt:93:16
 mul-base : tie.Need-mul-base
@@ -40,7 +55,9 @@ part-scatter-end c = search needs
 
 -- src/lib.rt:96:5
 scatter-requires : tie.Need-scatter-requires
-scatter-requires c κs = search needs
+scatter-requires c κs = let s = c .before .before .before .before .before .before .before .before .before .before .before .before .before .before .before in
+    let m = opCount (d s) in
+    λ u i. rw (seg-length (6 * m + 1) (6 * m + 1 + nodeCount (d s) - (6 * m + 1)) (c .before .before .before .prepare .last .0) (omega (arith, c .before .before .before .prepare .ensures .runs .long))) (omega (arith, s .pre .1 .1 .1 .inputsBelow u i))
 
 -- src/lib.rt:75:1
 same-length : tie.Need-same-length
@@ -48,7 +65,9 @@ same-length c = search needs
 
 -- src/lib.rt:75:1
 returns : tie.Need-returns
-returns c = search needs
+returns c = let s = c .before .before .before .before .before .before .before .before .before .before .before .before .before .before .before .before .before .before in
+    let m = opCount (d s) in
+    loaded (d s) (b s) (s .args .values .now) (s .args .ws .now) (c .before .before .before .before .before .before .prepare .last .0) (c .before .before .before .before .before .before .prepare .ensures) (6 * m + 1 + nodeCount (d s) - (6 * m + 1)) (c .before .before .scatter .last .0) (omega arith) (c .before .before .scatter .ensures)
 
 pub load-spec : {M : Type 1} → statement M
 load-spec =

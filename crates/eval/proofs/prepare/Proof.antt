@@ -1,3 +1,10 @@
+use Rattle.rules.specs.Facts.EvalCall.{prepared-at}
+use Rattle.rules.specs.Drawing.{Drawing, Boundary, drawing, boundary, nodeCount, opCount}
+use Rattle.rules.specs.Lists.{seg}
+use lib.ListN.{length, take, drop}
+use native.Mathlib.Omega.{arith}
+use mathlib.Core.Path.{_≡_, refl, sym, ap, _∙_}
+use Prim.Native.Nat.{ℕ, _+_, _-_, _*_, _≤_, _<_}
 use borrow.Author.Needs.{needs}
 use Rattle.eval.proofs.prepare.Statement.{statement}
 use Rattle.eval.proofs.prepare.Tie as tie
@@ -5,6 +12,10 @@ use Rattle.eval.proofs.prepare.Reads as reads
 use Rattle.eval.proofs.prepare.Lts as lts
 use Rattle.array.proofs.fill.Reads as fill-reads
 use Rattle.memory.proofs.starts.Reads as starts-reads
+
+module _ (s : tie.Start) where
+  abbrev d : Drawing
+  d = drawing (s .args .w .now) (s .args .x .now) (s .args .sl .now) (s .args .sv .now) (s .args .tl .now) (s .args .tv .now)
 
 -- src/lib.rt:65:19
 mul-sources : tie.Need-mul-sources
@@ -92,7 +103,13 @@ same-length c = search needs
 
 -- src/lib.rt:51:1
 returns : tie.Need-returns
-returns c = search needs
+returns c = let s = c .before .before .before .before .before .before .before .before .before .before .before .before .before .before .before .before .before .before .before in
+    let m = opCount (d s) in
+    prepared-at (d s) (s .args .ws .now) (s .pre .0 .0) (s .pre .0 .1) (s .pre .1 .0) (s .pre .1 .1)
+    (4 * m + 1 + m - (4 * m + 1)) (4 * m + 1 + m) (4 * m + 1 + m + m - (4 * m + 1 + m)) (4 * m + 1 + m + m) (4 * m + 1 + m + m + nodeCount (d s) - (4 * m + 1 + m + m))
+    (c .before .before .before .before .before .before .before .before .before .before .starts .last .0) (c .before .before .before .before .before .before .starts2 .last .0) (c .before .before .fill .last .0)
+    (omega arith) (omega arith) (omega arith) (omega arith) (omega arith) (c .before .before .before .before .before .before .before .before .before .before .starts .kept .0) (c .before .before .before .before .before .before .starts2 .kept .0)
+    (c .before .before .before .before .before .before .before .before .before .before .starts .ensures) (c .before .before .before .before .before .before .starts2 .ensures) (c .before .before .fill .ensures)
 
 pub prepare-spec : {M : Type 1} → statement M
 prepare-spec =
