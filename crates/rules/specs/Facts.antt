@@ -71,3 +71,4 @@ pub mod Operating
 pub mod Evaluating
 pub mod Running
 pub mod EvalCall
+pub mod ReadsFirst

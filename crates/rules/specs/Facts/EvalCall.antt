@@ -10,16 +10,16 @@ use lib.Seq.{length-take-le}
 use lib.Dec.{leb}
 use borrow.Author.Tests.{leb-true, leb-false, le-leb, lt-leb}
 use Rattle.rules.specs.Lists.{_∈_, all, range, has, seg, sum, at}
-use Rattle.rules.specs.Drawing.{Drawing, Boundary, Accepted, opCount, nodeCount, AcceptedBoundary}
+use Rattle.rules.specs.Drawing.{Drawing, Boundary, Accepted, opCount, nodeCount, AcceptedBoundary, mostItems, mostValues}
 use Rattle.rules.specs.declared.Done.{Done}
 use Rattle.rules.specs.declared.Done.the-variants.{Fine, Faulty}
 use Rattle.rules.specs.declared.Refusal.{Refusal}
 use Rattle.rules.specs.declared.Refusal.the-variants.{OverLimit, ShortRoom}
-use Rattle.rules.specs.Facts.Segments.{back, back-length, back-seg-before, back-before, back-in, back-seg}
+use Rattle.rules.specs.Facts.Segments.{back, back-length, back-seg-before, back-before, back-in, back-seg, seg-length}
 use Rattle.rules.specs.Inner.Evaluating.{lateRefusal, lateBy, suitsBy, Prepared, earlyRefusal, Attempted, earlyChecks, Evaluated}
 use Rattle.rules.specs.Refusals.{workspaceNeed, early, firstOf, unless, within, number, shortRoom, lengthsFit, boundaryWithin, written, valuesWithin, valuesStand, refusalOf, badLengths, boundaryStands, badValue, badBoundary}
 use Rattle.rules.specs.Analysis.{marks, layers, orders}
-use Rattle.rules.specs.Facts.Tests.{∈-all, not-both, first-none, all-∈, unless-none, both}
+use Rattle.rules.specs.Facts.Tests.{∈-all, not-both, first-none, all-∈, unless-none, both, all-four}
 use Rattle.rules.specs.Inner.Layering.{Layering}
 use Rattle.rules.specs.Evaluation.{suitsAt, unplacedOp, wrongOperation, evaluated, storeAll, startMemory, run}
 use Rattle.rules.specs.Facts.Member.{∈-range, range-∈}
@@ -143,15 +143,18 @@ module _ (d : Drawing) (ws : List ℕ) (a : Accepted d) (long : length ws ≡ wo
         }
 
   -- the same, at the places that the code names
-  pub prepared-at : (k₁ a₂ k₂ a₃ k₃ : ℕ) (y₁ y₂ y₃ part : List ℕ) → k₁ ≡ opCount d → a₂ ≡ 5 * opCount d + 1 → k₂ ≡ opCount d → a₃ ≡ 6 * opCount d + 1 → k₃ ≡ nodeCount d
-      → length y₁ ≡ opCount d → length y₂ ≡ opCount d → length part ≡ nodeCount d
+  pub prepared-at : (k₁ a₂ k₂ a₃ k₃ : ℕ) (y₁ y₂ y₃ : List ℕ) → k₁ ≡ opCount d → a₂ ≡ 5 * opCount d + 1 → k₂ ≡ opCount d → a₃ ≡ 6 * opCount d + 1 → k₃ ≡ nodeCount d
+      → length y₁ ≡ length (seg (4 * opCount d + 1) k₁ ws) → length y₂ ≡ length (seg a₂ k₂ (back (4 * opCount d + 1) k₁ y₁ ws))
       → ((e : ℕ) → e < length (d .sourceLengths) → getD y₁ e 0 ≡ sum (take e (d .sourceLengths))) → ((e : ℕ) → e < length (d .targetLengths) → getD y₂ e 0 ≡ sum (take e (d .targetLengths)))
-      → y₃ ≡ filled (nodeCount d) 0 part
+      → y₃ ≡ filled (nodeCount d) 0 (seg a₃ k₃ (back a₂ k₂ y₂ (back (4 * opCount d + 1) k₁ y₁ ws)))
       → Prepared d (replicate (nodeCount d) 0) ws (back a₃ k₃ y₃ (back a₂ k₂ y₂ (back (4 * opCount d + 1) k₁ y₁ ws)))
-  prepared-at k₁ a₂ k₂ a₃ k₃ y₁ y₂ y₃ part p₁ q₂ p₂ q₃ p₃ l₁ l₂ l₃ s t z =
-      let zeros : y₃ ≡ replicate (nodeCount d) 0 = z ∙ rw (drop-of-length-le part {i = nodeCount d} (omega arith)) (append-nil (replicate (nodeCount d) 0)) in
+  prepared-at k₁ a₂ k₂ a₃ k₃ y₁ y₂ y₃ p₁ q₂ p₂ q₃ p₃ l₁ l₂ s t z =
+      let l₁′ : length y₁ ≡ opCount d = l₁ ∙ seg-length (4 * opCount d + 1) k₁ ws (omega arith) ∙ p₁ in
+      let g₁ : length (back (4 * opCount d + 1) k₁ y₁ ws) ≡ length ws = back-length (4 * opCount d + 1) k₁ y₁ ws (omega arith) (omega arith) in
+      let l₂′ : length y₂ ≡ opCount d = l₂ ∙ seg-length a₂ k₂ (back (4 * opCount d + 1) k₁ y₁ ws) (omega arith) ∙ p₂ in
+      let zeros : y₃ ≡ replicate (nodeCount d) 0 = z ∙ rw (drop-of-length-le (seg a₃ k₃ (back a₂ k₂ y₂ (back (4 * opCount d + 1) k₁ y₁ ws))) {i = nodeCount d} (simp length-take (omega arith))) (append-nil (replicate (nodeCount d) 0)) in
       rw (p₁, q₂, p₂, q₃, p₃, zeros)
-      (prepared y₁ y₂ (replicate (nodeCount d) 0) l₁ l₂ (length-replicate (nodeCount d) 0) (λ e h. s e (omega (arith, a .sources .count))) (λ e h. t e (omega (arith, a .targets .count))))
+      (prepared y₁ y₂ (replicate (nodeCount d) 0) l₁′ l₂′ (length-replicate (nodeCount d) 0) (λ e h. s e (omega (arith, a .sources .count))) (λ e h. t e (omega (arith, a .targets .count))))
 
 -- the input values are stored
 pub loaded : (d : Drawing) (b : Boundary) (values ws ws₁ : List ℕ) → Prepared d (replicate (nodeCount d) 0) ws ws₁ → (k : ℕ) (y : List ℕ) → k ≡ nodeCount d
@@ -223,6 +226,16 @@ module _ (d : Drawing) (b : Boundary) (values : List ℕ) (lent words : ℕ) whe
 
   abbrev limits : Bool
   limits = within d && boundaryWithin b && valuesWithin values
+
+  -- the test of the limits, as the code joins it
+  pub check-limits : (r t v : Bool) → r ≡ within d → t ≡ boundaryWithin b → r && t && leb (length values) mostItems ≡ v → limits ≡ v
+  check-limits r t v p q e = rw (← p, ← q) e
+
+  pub limits-small : limits ≡ true → (nodeCount d ≤ mostItems) × (opCount d ≤ mostItems) × (length (d .sourceValues) ≤ mostValues) × (length (d .targetValues) ≤ mostValues)
+  limits-small e =
+      let w = (both (within d) (boundaryWithin b) ((both (within d && boundaryWithin b) (valuesWithin values) e) .0)) .0 in
+      let p = all-four (leb (nodeCount d) mostItems) (leb (opCount d) mostItems) (leb (length (d .sourceValues)) mostValues) (leb (length (d .targetValues)) mostValues) w in
+      (leb-true _ _ (p .0), leb-true _ _ (p .1), leb-true _ _ (p .2), leb-true _ _ (p .3))
 
   pub check-over : limits ≡ false → 1 ≡ earlyRefusal d b values lent words
   unfolding earlyRefusal

@@ -17,7 +17,7 @@ use Rattle.rules.specs.Inner.Running.{memoryAt, Runs, outputsAt, Tables,
 use Rattle.rules.specs.Refusals.{workspaceNeed}
 use Rattle.rules.specs.Facts.Placing.{sum-take-le, sum-all, sum-take, below-mono, below-le}
 use Rattle.rules.specs.Facts.Evaluating.{map-same, back-over, store-append, store-length}
-use Rattle.rules.specs.Evaluation.{result, outputsOf, suits, operation, runLayer, run, storeAll}
+use Rattle.rules.specs.Evaluation.{result, outputsOf, suits, operation, runLayer, run, storeAll, suitsAt}
 use Rattle.rules.specs.Facts.Member.{∈-part, ∈-range, concat-e, getD-∈}
 use Rattle.rules.specs.Facts.Operating.{outputs-length}
 use Rattle.rules.specs.Analysis.{orders, layerOffsets, layerOperations, layerOf, layers}
@@ -160,6 +160,11 @@ module _ (base from label outs : ℕ) (places ws : List ℕ) (fits : from + leng
       let z : ys ≡ worked base label outs places ws = y ∙ rw (i, o) in
       rw (q, z, e) (back-over from (length places) (length places + outs) ins (worked base label outs places ws) ws (omega arith) ins-are (omega arith))
 
+-- as many outputs as targets
+pub outputs-many : (d : Drawing) (e : ℕ) (memory : List ℕ) → suitsAt d e ≡ true → length (outputsOf d memory e) ≡ length (targetsOf d e)
+outputs-many d e memory s =
+    outputs-length (operation (at (d .ops) e)) (map (at memory) (sourcesOf d e)) (length (targetsOf d e)) (rw (length-map (sourcesOf d e) (at memory)) s)
+
 -- one operation of a drawing that is to be run
 pub part-slice : (lens vals : List ℕ) (e s : ℕ) → s ≡ sum (take e lens) → take (s + at lens e - s) (drop s vals) ≡ part lens vals e
 unfolding part
@@ -203,11 +208,8 @@ module _ (d : Drawing) (ws : List ℕ) (r : Runs d ws) (e : ℕ) (h : e < opCoun
   read-here : map (at (drop (memoryAt d) ws)) (sourcesOf d e) ≡ map (at M) (sourcesOf d e)
   read-here = map-same (at (drop (memoryAt d) ws)) (at M) (sourcesOf d e) (λ u m. sym (getD-take (nodeCount d) (drop (memoryAt d) ws) u 0 (source-low u m)))
 
-  -- as many outputs as targets
   pub outputs-long : (memory : List ℕ) → length (outputsOf d memory e) ≡ length (targetsOf d e)
-  outputs-long memory =
-      outputs-length (operation (at (d .ops) e)) (map (at memory) (sourcesOf d e)) (length (targetsOf d e))
-      (rw (length-map (sourcesOf d e) (at memory)) (r .suited e h))
+  outputs-long memory = outputs-many d e memory (r .suited e h)
 
   abbrev done : List ℕ
   done = map (at M) (sourcesOf d e) ++ outputsOf d M e
