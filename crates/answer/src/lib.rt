@@ -1,0 +1,176 @@
+// The answer's room: all of the program as one function from bytes to bytes.
+mod stub;
+
+use rules::Done;
+use rules::Refusal;
+use text::Text;
+use text::reader::read_text;
+use text::reader::section;
+use text::writer::put_operations;
+use text::writer::put_refused;
+use text::writer::put_values;
+ghost use mathlib.Core.Path.{_≡_};
+ghost use mathlib.Core.List.{_++_};
+ghost use Prim.Native.Nat.{_+_, _≤_};
+ghost use lib.ListN.{length};
+ghost use Rattle.rules.specs.Drawing.{drawing, boundary};
+ghost use Rattle.rules.specs.Refusals.{number};
+ghost use Rattle.rules.specs.Calls.{boundaryRefusal};
+ghost use Rattle.rules.specs.Program.{answer as answerOf, operationLines, outputOf};
+ghost use Rattle.rules.specs.Facts.OutputLong.{mostWritten};
+ghost use Rattle.text.specs.Reading.{sectionsOf};
+ghost use Rattle.text.specs.Writing.{Put};
+ghost use Rattle.answer.specs.Answering.{Small, Nine, answerIn, closing};
+
+// Document 01's number.
+fn number_of(why: Refusal) -> u32
+    ensures { λ r. ⌜ r ≡ number why ⌝ }
+{
+    match why {
+        Refusal::OverLimit => 1,
+        Refusal::BadLengths => 2,
+        Refusal::BadValue => 3,
+        Refusal::BadEntry => 4,
+        Refusal::TypeMismatchW => 5,
+        Refusal::TypeMismatchX => 6,
+        Refusal::NotNaturalW => 7,
+        Refusal::NotNaturalX => 8,
+        Refusal::NotNaturalS => 9,
+        Refusal::NotNaturalT => 10,
+        Refusal::ShortRoom => 11,
+        Refusal::BadBoundary => 12,
+        Refusal::Unplaced => 13,
+        Refusal::WrongOperation => 14,
+        Refusal::BadText => 15,
+    }
+}
+
+// The operations' header and lines, of a drawing that the check passes.
+fn put_layers(
+    w: &[u32],
+    x: &[u32],
+    sl: &[u32],
+    sv: &[u32],
+    tl: &[u32],
+    tv: &[u32],
+    inputs: &[u32],
+    outputs: &[u32],
+    values: &[u32],
+    out: &mut [u8],
+) -> usize
+    requires { ⌜ boundaryRefusal (drawing (now w) (now x) (now sl) (now sv) (now tl) (now tv)) (boundary (now inputs) (now outputs)) ≡ 0 ⌝ }
+    requires { ⌜ Small (drawing (now w) (now x) (now sl) (now sv) (now tl) (now tv)) (boundary (now inputs) (now outputs)) (now values) ⌝ }
+    requires { ⌜ length (operationLines (drawing (now w) (now x) (now sl) (now sv) (now tl) (now tv))) ≤ length (now out) ⌝ }
+    ensures { λ r. ⌜ Put (operationLines (drawing (now (w .entry)) (now (x .entry)) (now (sl .entry)) (now (sv .entry)) (now (tl .entry)) (now (tv .entry)))) 0 (now (out .entry)) (now (out .exit)) r ⌝ }
+{
+    let mut orders = [0u32; 256];
+    let mut marks = [0u32; 256];
+    let mut ws = [0u32; 8200];
+    stub::layer(w, x, sl, sv, tl, tv, &mut orders, &mut marks, &mut ws);
+    let m = x.len();
+    put_operations(out, 0, &orders[..m], &marks[..m])
+}
+
+// Behind them: the values' header and lines, or `refused` with 13 or 14.
+fn put_closing(
+    w: &[u32],
+    x: &[u32],
+    sl: &[u32],
+    sv: &[u32],
+    tl: &[u32],
+    tv: &[u32],
+    inputs: &[u32],
+    outputs: &[u32],
+    values: &[u32],
+    out: &mut [u8],
+    at: usize,
+) -> usize
+    requires { ⌜ boundaryRefusal (drawing (now w) (now x) (now sl) (now sv) (now tl) (now tv)) (boundary (now inputs) (now outputs)) ≡ 0 ⌝ }
+    requires { ⌜ Small (drawing (now w) (now x) (now sl) (now sv) (now tl) (now tv)) (boundary (now inputs) (now outputs)) (now values) ⌝ }
+    requires { ⌜ at + length (closing (drawing (now w) (now x) (now sl) (now sv) (now tl) (now tv)) (boundary (now inputs) (now outputs)) (now values)) ≤ length (now out) ⌝ }
+    ensures { λ r. ⌜ Put (closing (drawing (now (w .entry)) (now (x .entry)) (now (sl .entry)) (now (sv .entry)) (now (tl .entry)) (now (tv .entry))) (boundary (now (inputs .entry)) (now (outputs .entry))) (now (values .entry))) at (now (out .entry)) (now (out .exit)) r ⌝ }
+{
+    let mut results = [0u32; 256];
+    let mut ws = [0u32; 8200];
+    match stub::eval(
+        w,
+        x,
+        sl,
+        sv,
+        tl,
+        tv,
+        inputs,
+        outputs,
+        values,
+        &mut results,
+        &mut ws,
+    ) {
+        Done::Faulty(why) => put_refused(out, at, number_of(why)),
+        Done::Fine => {
+            let k = outputs.len();
+            put_values(out, at, &results[..k])
+        }
+    }
+}
+
+// What is written for a drawing, a boundary and input values.
+fn put_answer(
+    w: &[u32],
+    x: &[u32],
+    sl: &[u32],
+    sv: &[u32],
+    tl: &[u32],
+    tv: &[u32],
+    inputs: &[u32],
+    outputs: &[u32],
+    values: &[u32],
+    out: &mut [u8],
+) -> usize
+    requires { ⌜ Small (drawing (now w) (now x) (now sl) (now sv) (now tl) (now tv)) (boundary (now inputs) (now outputs)) (now values) ⌝ }
+    requires { ⌜ length (answerOf (drawing (now w) (now x) (now sl) (now sv) (now tl) (now tv)) (boundary (now inputs) (now outputs)) (now values)) ≤ length (now out) ⌝ }
+    ensures { λ r. ⌜ Put (answerOf (drawing (now (w .entry)) (now (x .entry)) (now (sl .entry)) (now (sv .entry)) (now (tl .entry)) (now (tv .entry))) (boundary (now (inputs .entry)) (now (outputs .entry))) (now (values .entry))) 0 (now (out .entry)) (now (out .exit)) r ⌝ }
+{
+    match hypergraph::check::check_boundary(w, x, sl, sv, tl, tv, inputs, outputs) {
+        Done::Faulty(why) => put_refused(out, 0, number_of(why)),
+        Done::Fine => {
+            let at = put_layers(w, x, sl, sv, tl, tv, inputs, outputs, values, out);
+            put_closing(w, x, sl, sv, tl, tv, inputs, outputs, values, out, at)
+        }
+    }
+}
+
+// What is written for the nine sections of a text, given as their counts and their numbers.
+fn put_sections(counts: &[u32], numbers: &[u32], out: &mut [u8]) -> usize
+    requires { ⌜ Nine (now counts) (now numbers) ⌝ }
+    requires { ⌜ length (answerIn (sectionsOf (now counts) (now numbers))) ≤ length (now out) ⌝ }
+    ensures { λ r. ⌜ Put (answerIn (sectionsOf (now (counts .entry)) (now (numbers .entry)))) 0 (now (out .entry)) (now (out .exit)) r ⌝ }
+{
+    put_answer(
+        section(counts, numbers, 0),
+        section(counts, numbers, 1),
+        section(counts, numbers, 2),
+        section(counts, numbers, 3),
+        section(counts, numbers, 4),
+        section(counts, numbers, 5),
+        section(counts, numbers, 6),
+        section(counts, numbers, 7),
+        section(counts, numbers, 8),
+        out,
+    )
+}
+
+// All of the program: what it writes for a text stands at the front of `out`, and the answer is how many bytes that is.
+pub fn answer(text: &[u8], out: &mut [u8]) -> usize
+    requires { ⌜ mostWritten ≤ length (now out) ⌝ }
+    ensures { λ r. ⌜ Put (outputOf (now (text .entry))) 0 (now (out .entry)) (now (out .exit)) r ⌝ }
+{
+    if 65536 < text.len() {
+        return put_refused(out, 0, 1);
+    }
+    let mut counts = [0u32; 9];
+    let mut numbers = [0u32; 3840];
+    match read_text(text, &mut counts, &mut numbers) {
+        Text::Refused(k) => put_refused(out, 0, k),
+        Text::Read => put_sections(&counts, &numbers, out),
+    }
+}
