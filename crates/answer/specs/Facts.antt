@@ -14,11 +14,11 @@ use Rattle.rules.specs.Evaluation.{evaluated, unplacedOp, wrongOperation}
 use Rattle.rules.specs.Calls.{boundaryRefusal}
 use Rattle.rules.specs.Promises.{Layer, Eval}
 use Rattle.rules.specs.Text.{limits, wholeText}
-use Rattle.rules.specs.Program.{answer, operationLines, valueLines, refusedLine}
+use Rattle.rules.specs.Program.{answer, operationLines, valueLines, refusedLine, outputOf}
 use Rattle.rules.specs.Facts.Member.{range-length}
 use Rattle.rules.specs.Facts.TextSections.{Fit}
 use Rattle.rules.specs.Facts.Output.{answer-refused, answer-taken, values-refused, layer-taken, eval-refused}
-use Rattle.rules.specs.Facts.OutputLong.{whole-sized, orders-length, evaluated-length}
+use Rattle.rules.specs.Facts.OutputLong.{mostWritten, output-long, whole-sized, orders-length, evaluated-length}
 use Rattle.rules.specs.Facts.Refusing.{fine-none, faulty-number}
 use Rattle.rules.specs.declared.Refusal.{Refusal}
 use Rattle.rules.specs.declared.Done.{Done}
@@ -110,3 +110,7 @@ module _ (ls : List (List ℕ)) (w x sl sv tl tv inputs outputs values : List �
 
   pub sections-answer : answerIn ls ≡ answer (drawing w x sl sv tl tv) (boundary inputs outputs) values
   sections-answer = rw (e0, e1, e2, e3, e4, e5, e6, e7, e8)
+
+-- for who calls it: what is written fits into the room
+pub answer-within : (t : List ℕ) {out out' : List ℕ} {r : ℕ} → Put (outputOf t) 0 out out' r → r ≤ mostWritten
+answer-within t p = omega (arith, p .next, output-long t)

@@ -1,6 +1,6 @@
 // The answer's room: all of the program as one function from bytes to bytes.
-mod stub;
-
+use eval::eval;
+use layers::layer::layer;
 use rules::Done;
 use rules::Refusal;
 use text::Text;
@@ -66,7 +66,7 @@ fn put_layers(
     let mut orders = [0u32; 256];
     let mut marks = [0u32; 256];
     let mut ws = [0u32; 8200];
-    stub::layer(w, x, sl, sv, tl, tv, &mut orders, &mut marks, &mut ws);
+    layer(w, x, sl, sv, tl, tv, &mut orders, &mut marks, &mut ws);
     let m = x.len();
     put_operations(out, 0, &orders[..m], &marks[..m])
 }
@@ -92,7 +92,7 @@ fn put_closing(
 {
     let mut results = [0u32; 256];
     let mut ws = [0u32; 8200];
-    match stub::eval(
+    match eval(
         w,
         x,
         sl,

@@ -12,7 +12,7 @@ use Rattle.answer.proofs.put_layers.Statement.{statement}
 use Rattle.answer.proofs.put_layers.Tie as tie
 use Rattle.answer.proofs.put_layers.Reads as reads
 use Rattle.answer.proofs.put_layers.Lts as lts
-use Rattle.answer.proofs.stub.layer.Reads as layer-reads
+use Rattle.layers.proofs.layer.layer.Reads as layer-reads
 use Rattle.text.proofs.writer.put_operations.Reads as put-operations-reads
 
 module _ (s : tie.Start) where
