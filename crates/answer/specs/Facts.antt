@@ -11,14 +11,14 @@ use Rattle.rules.specs.Graph.{mark}
 use Rattle.rules.specs.Analysis.{orders, marks, opNext}
 use Rattle.rules.specs.Refusals.{firstOf, number, refusalOf, written}
 use Rattle.rules.specs.Evaluation.{evaluated, unplacedOp, wrongOperation}
-use Rattle.rules.specs.Calls.{boundaryRefusal}
+use Rattle.rules.specs.Calls.{boundaryRefusal, layerRefusal}
 use Rattle.rules.specs.Promises.{Layer, Eval}
-use Rattle.rules.specs.Text.{limits, wholeText}
+use Rattle.rules.specs.Text.{limits, wholeText, mostCounted}
 use Rattle.rules.specs.Program.{answer, operationLines, valueLines, refusedLine, outputOf}
 use Rattle.rules.specs.Facts.Member.{range-length}
 use Rattle.rules.specs.Facts.TextSections.{Fit}
 use Rattle.rules.specs.Facts.Output.{answer-refused, answer-taken, values-refused, layer-taken, eval-refused}
-use Rattle.rules.specs.Facts.OutputLong.{mostWritten, output-long, whole-sized, orders-length, evaluated-length}
+use Rattle.rules.specs.Facts.OutputLong.{mostWords, mostWritten, output-long, whole-sized, orders-length, evaluated-length}
 use Rattle.rules.specs.Facts.Refusing.{fine-none, faulty-number}
 use Rattle.rules.specs.declared.Refusal.{Refusal}
 use Rattle.rules.specs.declared.Done.{Done}
@@ -40,6 +40,27 @@ put-same e p = rw e p
 front : (refusal : ℕ) (new room room' : List ℕ) (k : ℕ) → refusal ≡ 0 → length new ≡ k → room' ≡ written refusal new room → take k room' ≡ new
 front refusal new room room' k z e w = rw (w, z, ← e) (take-append-seam new (drop (length new) room))
 
+-- `layer` is not refused: the fronts of its rooms are the orders and the marks
+module _ (d : Drawing) (free : layerRefusal d mostCounted mostCounted mostWords ≡ 0) (few : opCount d ≤ mostCounted) where
+  module _ {os os' ms ms' ws ws' : List ℕ} {r : Done} (l : Layer d os os' ms ms' ws ws' r) (ho : length os ≡ mostCounted) (hm : length ms ≡ mostCounted) (hw : length ws ≡ mostWords) where
+    layer-fine : refusalOf r ≡ 0
+    layer-fine = l .refusal ∙ rw (ho, hm, hw) free
+
+    orders-front : take (opCount d) os' ≡ orders d
+    orders-front = front (refusalOf r) (orders d) os os' (opCount d) layer-fine (orders-length d) (l .orders')
+
+    marks-length : length (marks d) ≡ opCount d
+    marks-length = length-map (range (opCount d)) (mark (opNext d) (opCount d)) ∙ range-length (opCount d)
+
+    marks-front : take (opCount d) ms' ≡ marks d
+    marks-front = front (refusalOf r) (marks d) ms ms' (opCount d) layer-fine marks-length (l .marks')
+
+    pub layers-lines : operationLines d ≡ operations (take (opCount d) os') (take (opCount d) ms')
+    layers-lines = rw (orders-front, marks-front) (sym (operations-are d))
+
+    pub layers-few : (length (take (opCount d) os') ≤ mostItems) × (length (take (opCount d) ms') ≡ length (take (opCount d) os'))
+    layers-few = rw (orders-front, marks-front) (omega (arith, orders-length d, few), marks-length ∙ sym (orders-length d))
+
 -- the check of the drawing and the boundary refuses
 pub check-refused : (d : Drawing) (b : Boundary) (values : List ℕ) (r : Done) (why : Refusal) (k : ℕ) → refusalOf r ≡ boundaryRefusal d b → r ≡ Faulty why → k ≡ number why
     → answer d b values ≡ refusedLine k
@@ -55,28 +76,11 @@ module _ (d : Drawing) (b : Boundary) (values : List ℕ) (z : boundaryRefusal d
   answer-start out h = rw (← check-passed) (rest-start 0 out (answer d b values) (omega arith))
 
   module _ (s : Small d b values) where
-    -- `layer` is not refused: the fronts of its rooms are the orders and the marks
-    module _ {os os' ms ms' ws ws' : List ℕ} {r : Done} (l : Layer d os os' ms ms' ws ws' r) (ho : length os ≡ 256) (hm : length ms ≡ 256) (hw : length ws ≡ 8200) where
-      layer-fine : refusalOf r ≡ 0
-      layer-fine = l .refusal ∙ layer-taken d b z (length os) (length ms) (length ws) (omega (arith, s .ops)) (omega (arith, s .ops)) (omega (arith, s .workspace))
-
-      orders-front : take (opCount d) os' ≡ orders d
-      orders-front = front (refusalOf r) (orders d) os os' (opCount d) layer-fine (orders-length d) (l .orders')
-
-      marks-length : length (marks d) ≡ opCount d
-      marks-length = length-map (range (opCount d)) (mark (opNext d) (opCount d)) ∙ range-length (opCount d)
-
-      marks-front : take (opCount d) ms' ≡ marks d
-      marks-front = front (refusalOf r) (marks d) ms ms' (opCount d) layer-fine marks-length (l .marks')
-
-      pub layers-lines : operationLines d ≡ operations (take (opCount d) os') (take (opCount d) ms')
-      layers-lines = rw (orders-front, marks-front) (sym (operations-are d))
-
-      pub layers-few : (length (take (opCount d) os') ≤ mostItems) × (length (take (opCount d) ms') ≡ length (take (opCount d) os'))
-      layers-few = rw (orders-front, marks-front) (omega (arith, orders-length d, s .ops), marks-length ∙ sym (orders-length d))
+    pub layer-free : (layerRefusal d mostCounted mostCounted mostWords ≡ 0) × (opCount d ≤ mostCounted)
+    layer-free = (layer-taken d b z mostCounted mostCounted mostWords (s .ops) (s .ops) (s .workspace), s .ops)
 
     -- `eval` is refused with 13 or 14 alone; if not, the front of its room is the values
-    module _ {out out' ws ws' : List ℕ} {r : Done} (e : Eval d b values out out' ws ws' r) (ho : length out ≡ 256) (hw : length ws ≡ 8200) where
+    module _ {out out' ws ws' : List ℕ} {r : Done} (e : Eval d b values out out' ws ws' r) (ho : length out ≡ mostCounted) (hw : length ws ≡ mostWords) where
       eval-number : refusalOf r ≡ firstOf (unplacedOp d ∷ wrongOperation d ∷ [])
       eval-number = e .refusal ∙ eval-refused d b z values (length out) (length ws) (omega (arith, s .given)) (omega (arith, s .outputs)) (omega (arith, s .workspace))
 

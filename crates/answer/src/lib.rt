@@ -10,14 +10,14 @@ use text::writer::put_operations;
 use text::writer::put_refused;
 use text::writer::put_values;
 ghost use mathlib.Core.Path.{_≡_};
-ghost use mathlib.Core.List.{_++_};
 ghost use Prim.Native.Nat.{_+_, _≤_};
 ghost use lib.ListN.{length};
 ghost use Rattle.rules.specs.Drawing.{drawing, boundary};
 ghost use Rattle.rules.specs.Refusals.{number};
-ghost use Rattle.rules.specs.Calls.{boundaryRefusal};
+ghost use Rattle.rules.specs.Calls.{boundaryRefusal, layerRefusal};
+ghost use Rattle.rules.specs.Text.{mostCounted};
 ghost use Rattle.rules.specs.Program.{answer as answerOf, operationLines, outputOf};
-ghost use Rattle.rules.specs.Facts.OutputLong.{mostWritten};
+ghost use Rattle.rules.specs.Facts.OutputLong.{mostWords, mostWritten};
 ghost use Rattle.text.specs.Reading.{sectionsOf};
 ghost use Rattle.text.specs.Writing.{Put};
 ghost use Rattle.answer.specs.Answering.{Small, Nine, answerIn, closing};
@@ -45,7 +45,7 @@ fn number_of(why: Refusal) -> u32
     }
 }
 
-// The operations' header and lines, of a drawing that the check passes.
+// The operations' header and lines, of a drawing that `layer` does not refuse.
 fn put_layers(
     w: &[u32],
     x: &[u32],
@@ -53,13 +53,9 @@ fn put_layers(
     sv: &[u32],
     tl: &[u32],
     tv: &[u32],
-    inputs: &[u32],
-    outputs: &[u32],
-    values: &[u32],
     out: &mut [u8],
 ) -> usize
-    requires { ⌜ boundaryRefusal (drawing (now w) (now x) (now sl) (now sv) (now tl) (now tv)) (boundary (now inputs) (now outputs)) ≡ 0 ⌝ }
-    requires { ⌜ Small (drawing (now w) (now x) (now sl) (now sv) (now tl) (now tv)) (boundary (now inputs) (now outputs)) (now values) ⌝ }
+    requires { ⌜ (layerRefusal (drawing (now w) (now x) (now sl) (now sv) (now tl) (now tv)) mostCounted mostCounted mostWords ≡ 0) × (length (now x) ≤ mostCounted) ⌝ }
     requires { ⌜ length (operationLines (drawing (now w) (now x) (now sl) (now sv) (now tl) (now tv))) ≤ length (now out) ⌝ }
     ensures { λ r. ⌜ Put (operationLines (drawing (now (w .entry)) (now (x .entry)) (now (sl .entry)) (now (sv .entry)) (now (tl .entry)) (now (tv .entry)))) 0 (now (out .entry)) (now (out .exit)) r ⌝ }
 {
@@ -133,7 +129,7 @@ fn put_answer(
     match hypergraph::check::check_boundary(w, x, sl, sv, tl, tv, inputs, outputs) {
         Done::Faulty(why) => put_refused(out, 0, number_of(why)),
         Done::Fine => {
-            let at = put_layers(w, x, sl, sv, tl, tv, inputs, outputs, values, out);
+            let at = put_layers(w, x, sl, sv, tl, tv, out);
             put_closing(w, x, sl, sv, tl, tv, inputs, outputs, values, out, at)
         }
     }

@@ -9,7 +9,7 @@ use Rattle.rules.specs.Calls.{boundaryRefusal}
 use Rattle.answer.specs.Answering.{closing}
 use Rattle.rules.specs.Facts.Refusing.{fine-none}
 use Rattle.text.specs.Facts.Puts.{Rest, rest-room, rest-more, rest-last}
-use Rattle.answer.specs.Facts.{put-same, check-refused, answer-start}
+use Rattle.answer.specs.Facts.{put-same, check-refused, answer-start, layer-free}
 use borrow.Author.Needs.{needs}
 use Rattle.answer.proofs.put_answer.Statement.{statement}
 use Rattle.answer.proofs.put_answer.Tie as tie
@@ -60,7 +60,7 @@ module _ (c : tie.After-put-layers) where
   abbrev p : tie.After-enum-told
   p = c .before .before
 
-  after : Rest 0 (out (t p)) (whole (t p)) (c .put-layers .result) (c .put-layers .last .1 .1 .1 .1 .1 .1 .1 .1 .1 .0) (closing (d (t p)) (b (t p)) (v (t p)))
+  after : Rest 0 (out (t p)) (whole (t p)) (c .put-layers .result) (c .put-layers .last .1 .1 .1 .1 .1 .1 .0) (closing (d (t p)) (b (t p)) (v (t p)))
   after = rest-more {bs = operationLines (d (t p))} (begin p) (c .put-layers .ensures)
 
 check-boundary-requires : tie.Need-check-boundary-requires
@@ -79,7 +79,7 @@ enum-told : tie.Need-enum-told
 enum-told c = search needs
 
 put-layers-requires : tie.Need-put-layers-requires
-put-layers-requires c κs = let p = c .before in (passed p, (t p .pre .0, omega (arith, rest-room (operationLines (d (t p))) (closing (d (t p)) (b (t p)) (v (t p))) (begin p))))
+put-layers-requires c κs = let p = c .before in (layer-free (d (t p)) (b (t p)) (v (t p)) (passed p) (t p .pre .0), omega (arith, rest-room (operationLines (d (t p))) (closing (d (t p)) (b (t p)) (v (t p))) (begin p)))
 
 put-closing-requires : tie.Need-put-closing-requires
 put-closing-requires c κs = let l = c .before .before .before in (passed (p l), (t (p l) .pre .0, after l .room))

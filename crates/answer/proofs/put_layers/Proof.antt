@@ -3,7 +3,7 @@ use mathlib.Core.Path.{_≡_, refl, ap}
 use mathlib.Core.List.{List}
 use native.Mathlib.Omega.{arith}
 use lib.ListN.{length, take, length-take}
-use Rattle.rules.specs.Drawing.{Drawing, Boundary, drawing, boundary, opCount, mostItems}
+use Rattle.rules.specs.Drawing.{Drawing, drawing, opCount, mostItems}
 use Rattle.rules.specs.Program.{operationLines}
 use Rattle.text.specs.Writing.{operations}
 use Rattle.answer.specs.Facts.{put-same, layers-lines, layers-few}
@@ -19,13 +19,10 @@ module _ (s : tie.Start) where
   abbrev d : Drawing
   d = drawing (s .args .w .now) (s .args .x .now) (s .args .sl .now) (s .args .sv .now) (s .args .tl .now) (s .args .tv .now)
 
-  abbrev b : Boundary
-  b = boundary (s .args .inputs .now) (s .args .outputs .now)
-
 -- what `layer` left
 module _ (c : tie.After-layer) where
   abbrev s : tie.Start
-  s = c .before .before .before .before .before .before .before .before .before .before .before .before .before .before
+  s = c .before .before .before .before .before .before .before .before .before .before .before
 
   abbrev os : List ℕ
   os = take (opCount (d s)) (c .layer .last .1 .1 .1 .1 .1 .1 .0)
@@ -34,10 +31,10 @@ module _ (c : tie.After-layer) where
   ms = take (opCount (d s)) (c .layer .last .1 .1 .1 .1 .1 .1 .1 .0)
 
   written : operationLines (d s) ≡ operations os ms
-  written = layers-lines (d s) (b s) (s .args .values .now) (s .pre .0) (s .pre .1 .0) (c .layer .ensures) refl refl refl
+  written = layers-lines (d s) (s .pre .0 .0) (s .pre .0 .1) (c .layer .ensures) refl refl refl
 
   few : (length os ≤ mostItems) × (length ms ≡ length os)
-  few = layers-few (d s) (b s) (s .args .values .now) (s .pre .0) (s .pre .1 .0) (c .layer .ensures) refl refl refl
+  few = layers-few (d s) (s .pre .0 .0) (s .pre .0 .1) (c .layer .ensures) refl refl refl
 
 slice-aggregate-layer : tie.Need-slice-aggregate-layer
 slice-aggregate-layer c = search needs
@@ -55,16 +52,16 @@ array-share-prefix-orders : tie.Need-array-share-prefix-orders
 array-share-prefix-orders c = search needs
 
 slice-aggregate-put-operations : tie.Need-slice-aggregate-put-operations
-slice-aggregate-put-operations c = simp length-take (omega (arith, c .before .before .before .before .before .before .before .before .before .before .before .before .before .before .before .before .before .before .before .pre .1 .0 .ops))
+slice-aggregate-put-operations c = simp length-take (omega (arith, c .before .before .before .before .before .before .before .before .before .before .before .before .before .before .before .before .pre .0 .1))
 
 array-share-prefix-marks : tie.Need-array-share-prefix-marks
 array-share-prefix-marks c = search needs
 
 slice-aggregate-put-operations-2 : tie.Need-slice-aggregate-put-operations-2
-slice-aggregate-put-operations-2 c = simp length-take (omega (arith, c .before .before .before .before .before .before .before .before .before .before .before .before .before .before .before .before .before .before .before .before .pre .1 .0 .ops))
+slice-aggregate-put-operations-2 c = simp length-take (omega (arith, c .before .before .before .before .before .before .before .before .before .before .before .before .before .before .before .before .before .pre .0 .1))
 
 put-operations-requires : tie.Need-put-operations-requires
-put-operations-requires c κs = let l = c .before .before .before .before .before .before in (omega (arith, ap length (written l), s l .pre .1 .1), few l)
+put-operations-requires c κs = let l = c .before .before .before .before .before .before in (omega (arith, ap length (written l), s l .pre .1), few l)
 
 same-length : tie.Need-same-length
 same-length c = search needs
