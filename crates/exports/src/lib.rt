@@ -12,7 +12,7 @@ ghost use mathlib.Core.Path.{_≡_};
 ghost use Rattle.rules.specs.Drawing.{drawing, maps, boundary};
 ghost use Rattle.rules.specs.Refusals.{number, refusalOf};
 ghost use Rattle.rules.specs.Faces.{DoneFace, VerdictFace, SizeFace, SoundFace, LayerAtFace, Told, Measured};
-ghost use Rattle.rules.specs.Promises.{CheckDrawing, CheckMaps, CheckBoundary, SourceConverse, TargetConverse, NodeAdjacency, OperationAdjacency, NodeAdjacencySize, OperationAdjacencySize, IsAcyclic, Layer, LayeredOperations, Validate, IsMonomorphism, IsConvexSubgraph};
+ghost use Rattle.rules.specs.Promises.{CheckDrawing, CheckMaps, CheckBoundary, SourceConverse, TargetConverse, NodeAdjacency, OperationAdjacency, NodeAdjacencySize, OperationAdjacencySize, IsAcyclic, Layer, LayeredOperations, Validate, IsMonomorphism, IsConvexSubgraph, Eval};
 
 // Document 01's number.
 fn number_of(why: Refusal) -> u32
@@ -387,6 +387,26 @@ pub extern "C" fn tiwelzam_is_convex_subgraph(
         ),
         word,
     )
+}
+
+// The values at the output list.
+#[no_mangle]
+pub extern "C" fn tiwelzam_eval(
+    w: &[u32],
+    x: &[u32],
+    sl: &[u32],
+    sv: &[u32],
+    tl: &[u32],
+    tv: &[u32],
+    inputs: &[u32],
+    outputs: &[u32],
+    values: &[u32],
+    out: &mut [u32],
+    ws: &mut [u32],
+) -> u32
+    ensures { λ r. ⌜ DoneFace (Eval (drawing (now (w .entry)) (now (x .entry)) (now (sl .entry)) (now (sv .entry)) (now (tl .entry)) (now (tv .entry))) (boundary (now (inputs .entry)) (now (outputs .entry))) (now (values .entry)) (now (out .entry)) (now (out .exit)) (now (ws .entry)) (now (ws .exit))) r ⌝ }
+{
+    done(eval::eval(w, x, sl, sv, tl, tv, inputs, outputs, values, out, ws))
 }
 
 // Whether offsets are sound: one more than the operations, first 0, never falling, last their number.
