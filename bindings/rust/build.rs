@@ -2,9 +2,9 @@
 //!
 //! TIWELZAM_LIB names the folder that holds `libexports.a`. Where it is not given, the folder is
 //! `target/staticlib` of the repository; if there is no archive yet and `rt` is there, it is made.
+use std::env;
 use std::path::{Path, PathBuf};
 use std::process::Command;
-use std::{env, fs};
 
 const ARCHIVE: &str = "libexports.a";
 
@@ -21,7 +21,6 @@ fn main() {
     println!("cargo:rerun-if-changed={}", folder.join(ARCHIVE).display());
     println!("cargo:rustc-link-search=native={}", folder.display());
     println!("cargo:rustc-link-lib=static=exports");
-    absent(&folder.join(ARCHIVE));
 }
 
 /// The folder that TIWELZAM_LIB names.
@@ -62,25 +61,4 @@ fn make(repository: &Path) {
 fn fail(why: &str) -> ! {
     eprintln!("tiwelzam: {why}");
     std::process::exit(1)
-}
-
-/// Calls that the archive does not have yet: each gets a symbol that answers 99.
-fn absent(archive: &Path) {
-    let bytes = fs::read(archive).unwrap_or_default();
-    let has = |name: &str| {
-        bytes.windows(name.len() + 1).any(|w| &w[..name.len()] == name.as_bytes() && w[name.len()] == 0)
-    };
-    let source = fs::read_to_string("src/calls.rs").expect("src/calls.rs");
-    let calls = source
-        .lines()
-        .filter_map(|line| line.trim().strip_suffix(';')?.split_once(": "))
-        .map(|(name, _)| name);
-    let missing: Vec<&str> = calls.filter(|name| name.starts_with("tiwelzam_") && !has(name)).collect();
-    let mut text = format!("pub const ABSENT: &[&str] = &{missing:?};\n");
-    for name in missing {
-        text +=
-            &format!("core::arch::global_asm!(\".globl {name}\", \"{name}:\", \"mov eax, 99\", \"ret\");\n");
-    }
-    let out = PathBuf::from(env::var_os("OUT_DIR").expect("cargo names a folder for what is made"));
-    fs::write(out.join("absent.rs"), text).expect("absent.rs");
 }

@@ -15,14 +15,12 @@ impl Drawing<'_> {
     /// Whether the drawing and its boundary are accepted. Refuses with 1, 2, 3 or 12.
     ///
     /// ```
-    /// # tiwelzam::landed!("tiwelzam_check_boundary");
     /// use tiwelzam::{Boundary, Drawing, Refusal};
     ///
     /// let drawing = Drawing { nodes: &[0, 0], ..Drawing::EMPTY };
     /// assert_eq!(drawing.check_boundary(Boundary { inputs: &[0, 0], outputs: &[1] }), Ok(()));
     /// let outside = Boundary { inputs: &[2], outputs: &[] };
     /// assert_eq!(drawing.check_boundary(outside), Err(Refusal::BadBoundary));
-    /// # Ok::<(), tiwelzam::Refusal>(())
     /// ```
     pub fn check_boundary(&self, boundary: Boundary) -> Result<(), Refusal> {
         done(ask!(tiwelzam_check_boundary(drawing self, list boundary.inputs, list boundary.outputs)))
@@ -48,7 +46,6 @@ impl Drawing<'_> {
     /// | 256..511 | 0, 1 | label-256 |
     ///
     /// ```
-    /// # tiwelzam::landed!("tiwelzam_eval");
     /// use tiwelzam::{Boundary, Drawing, Workspace};
     ///
     /// // Which of two distances is smaller: |n0 - n1| or |n0 - n2|?
@@ -79,7 +76,6 @@ impl Drawing<'_> {
     /// [`Drawing::eval`] into lent memory: as many values as there are outputs.
     ///
     /// ```
-    /// # tiwelzam::landed!("tiwelzam_eval");
     /// use tiwelzam::{Boundary, Drawing, Refusal};
     ///
     /// let drawing = Drawing { nodes: &[0], ..Drawing::EMPTY };
@@ -88,7 +84,6 @@ impl Drawing<'_> {
     /// assert_eq!(drawing.eval_into(boundary, &[1, 2], &mut out, &mut workspace), Ok(()));
     /// assert_eq!((out, workspace), ([2, 7], [0; 16]));
     /// assert_eq!(drawing.eval_into(boundary, &[1, 2], &mut [], &mut workspace), Err(Refusal::ShortRoom));
-    /// # Ok::<(), tiwelzam::Refusal>(())
     /// ```
     pub fn eval_into(
         &self,

@@ -101,5 +101,3 @@ pub fn verdict(number: u32, word: u32) -> Result<bool, Refusal> {
     debug_assert!(word <= 1, "a yes or a no");
     Ok(word == 1)
 }
-
-include!(concat!(env!("OUT_DIR"), "/absent.rs"));

@@ -59,7 +59,6 @@ impl Drawing<'_> {
     /// Whether the drawing is accepted. Refuses with 1, 2 or 3.
     ///
     /// ```
-    /// # tiwelzam::landed!("tiwelzam_check_drawing");
     /// use tiwelzam::{Drawing, Refusal};
     ///
     /// let drawing = Drawing {
@@ -74,7 +73,6 @@ impl Drawing<'_> {
     /// assert_eq!(Drawing { nodes: &[0], ..drawing }.check(), Err(Refusal::BadValue));
     /// assert_eq!(Drawing { targets: &[], ..drawing }.check(), Err(Refusal::BadLengths));
     /// assert_eq!(Drawing { nodes: &[0; 4097], ..drawing }.check(), Err(Refusal::OverLimit));
-    /// # Ok::<(), tiwelzam::Refusal>(())
     /// ```
     pub fn check(&self) -> Result<(), Refusal> {
         done(ask!(tiwelzam_check_drawing(drawing self)))
@@ -83,7 +81,6 @@ impl Drawing<'_> {
     /// For each node the operations that list it as a source, ascending, once per listing. Refuses with 1, 2 or 3.
     ///
     /// ```
-    /// # tiwelzam::landed!("tiwelzam_source_converse");
     /// use tiwelzam::{Drawing, Table, Workspace};
     ///
     /// // None to 0, and (0, 0) to 1.
@@ -109,7 +106,6 @@ impl Drawing<'_> {
     /// [`Drawing::source_converse`] into lent memory: n lengths, S values and W words.
     ///
     /// ```
-    /// # tiwelzam::landed!("tiwelzam_source_converse");
     /// use tiwelzam::Drawing;
     ///
     /// let drawing = Drawing { nodes: &[0], ..Drawing::EMPTY };
@@ -130,7 +126,6 @@ impl Drawing<'_> {
     /// For each node the operations that list it as a target, ascending, once per listing. Refuses with 1, 2 or 3.
     ///
     /// ```
-    /// # tiwelzam::landed!("tiwelzam_target_converse");
     /// use tiwelzam::{Drawing, Table, Workspace};
     ///
     /// // None to 0, and (0, 0) to 1.
@@ -156,7 +151,6 @@ impl Drawing<'_> {
     /// [`Drawing::target_converse`] into lent memory: n lengths, T values and W words.
     ///
     /// ```
-    /// # tiwelzam::landed!("tiwelzam_target_converse");
     /// use tiwelzam::Drawing;
     ///
     /// let drawing = Drawing { nodes: &[0], ..Drawing::EMPTY };
@@ -177,7 +171,6 @@ impl Drawing<'_> {
     /// How many values [`Drawing::node_adjacency`] gives; up to 2^28. Refuses with 1, 2 or 3.
     ///
     /// ```
-    /// # tiwelzam::landed!("tiwelzam_node_adjacency_size");
     /// use tiwelzam::Drawing;
     ///
     /// // (1, 1) to (2, 0)
@@ -202,7 +195,6 @@ impl Drawing<'_> {
     /// Refuses with 1, 2 or 3. [`Drawing::node_adjacency_size`] says how much memory it takes.
     ///
     /// ```
-    /// # tiwelzam::landed!("tiwelzam_node_adjacency", "tiwelzam_node_adjacency_size");
     /// use tiwelzam::{Drawing, Table, Workspace};
     ///
     /// // (1, 1) to (2, 0)
@@ -228,7 +220,6 @@ impl Drawing<'_> {
     /// [`Drawing::node_adjacency`] into lent memory: n lengths, [`Drawing::node_adjacency_size`] values and W words.
     ///
     /// ```
-    /// # tiwelzam::landed!("tiwelzam_node_adjacency");
     /// use tiwelzam::Drawing;
     ///
     /// let drawing = Drawing { nodes: &[0], ..Drawing::EMPTY };
@@ -249,7 +240,6 @@ impl Drawing<'_> {
     /// How many values [`Drawing::operation_adjacency`] gives; up to 2^28. Refuses with 1, 2 or 3.
     ///
     /// ```
-    /// # tiwelzam::landed!("tiwelzam_operation_adjacency_size");
     /// use tiwelzam::Drawing;
     ///
     /// // None to 0, and (0, 0) to 1.
@@ -274,7 +264,6 @@ impl Drawing<'_> {
     /// stay. Refuses with 1, 2 or 3. [`Drawing::operation_adjacency_size`] says how much memory it takes.
     ///
     /// ```
-    /// # tiwelzam::landed!("tiwelzam_operation_adjacency", "tiwelzam_operation_adjacency_size");
     /// use tiwelzam::{Drawing, Table, Workspace};
     ///
     /// // None to 0, and (0, 0) to 1.
@@ -301,7 +290,6 @@ impl Drawing<'_> {
     /// W words.
     ///
     /// ```
-    /// # tiwelzam::landed!("tiwelzam_operation_adjacency");
     /// use tiwelzam::Drawing;
     ///
     /// let mut lengths = [7; 2];
@@ -321,7 +309,6 @@ impl Drawing<'_> {
     /// Whether no node lies on a directed cycle. Refuses with 1, 2 or 3.
     ///
     /// ```
-    /// # tiwelzam::landed!("tiwelzam_is_acyclic");
     /// use tiwelzam::{Drawing, Workspace};
     ///
     /// let mut workspace = Workspace::new();
@@ -345,14 +332,12 @@ impl Drawing<'_> {
     /// [`Drawing::is_acyclic`] in lent memory: W words.
     ///
     /// ```
-    /// # tiwelzam::landed!("tiwelzam_is_acyclic");
     /// use tiwelzam::{Drawing, Refusal};
     ///
     /// let mut workspace = [7; 9];
     /// assert_eq!(Drawing::EMPTY.is_acyclic_in(&mut workspace), Ok(true));
     /// assert_eq!(workspace, [0, 0, 0, 0, 0, 0, 0, 0, 7]);
     /// assert_eq!(Drawing::EMPTY.is_acyclic_in(&mut workspace[..7]), Err(Refusal::ShortRoom));
-    /// # Ok::<(), tiwelzam::Refusal>(())
     /// ```
     pub fn is_acyclic_in(&self, workspace: &mut [u32]) -> Result<bool, Refusal> {
         let mut word = UNWRITTEN;
@@ -363,7 +348,6 @@ impl Drawing<'_> {
     /// For each operation its layer, and whether it is placed in one. Refuses with 1, 2 or 3.
     ///
     /// ```
-    /// # tiwelzam::landed!("tiwelzam_layer");
     /// use tiwelzam::{Drawing, Workspace};
     ///
     /// // Operations 0 to 1, 1 to 0, 1 to 2, and none to 3: the first two turn in a circle, the third is behind it.
@@ -391,7 +375,6 @@ impl Drawing<'_> {
     /// [`Drawing::layer`] into lent memory: m orders, m marks and W words.
     ///
     /// ```
-    /// # tiwelzam::landed!("tiwelzam_layer");
     /// use tiwelzam::Drawing;
     ///
     /// let drawing = Drawing { operations: &[0], source_lengths: &[0], target_lengths: &[0], ..Drawing::EMPTY };
@@ -413,7 +396,6 @@ impl Drawing<'_> {
     /// 2 or 3.
     ///
     /// ```
-    /// # tiwelzam::landed!("tiwelzam_layered_operations");
     /// use tiwelzam::{Drawing, Workspace};
     ///
     /// // None to 0, and (0, 0) to 1.
@@ -443,7 +425,6 @@ impl Drawing<'_> {
     /// [`Drawing::layered_operations`] into lent memory: m operations, m + 1 offsets, m marks and W words.
     ///
     /// ```
-    /// # tiwelzam::landed!("tiwelzam_layered_operations");
     /// use tiwelzam::Drawing;
     ///
     /// let mut offsets = [7; 2];

@@ -16,13 +16,11 @@ impl LayeredOperations {
     /// The layers, first to last.
     ///
     /// ```
-    /// # tiwelzam::landed!("tiwelzam_offsets_sound");
     /// use tiwelzam::LayeredOperations;
     ///
     /// let layered = LayeredOperations { operations: vec![0, 2, 1], offsets: vec![0, 2, 3, 3], marks: vec![0; 3] };
     /// let layers: Vec<&[u32]> = layered.layers().collect();
     /// assert_eq!(layers, [&[0, 2][..], &[1], &[]]);
-    /// # Ok::<(), tiwelzam::Refusal>(())
     /// ```
     pub fn layers(&self) -> Layers<'_> {
         Layers::new(&self.operations, &self.offsets)
@@ -31,13 +29,11 @@ impl LayeredOperations {
     /// One layer; the empty one where there is none of this number.
     ///
     /// ```
-    /// # tiwelzam::landed!("tiwelzam_layer_at");
     /// use tiwelzam::LayeredOperations;
     ///
     /// let layered = LayeredOperations { operations: vec![0, 2, 1], offsets: vec![0, 2, 3, 3], marks: vec![0; 3] };
     /// assert_eq!(layered.layer_at(1), [1]);
     /// assert_eq!(layered.layer_at(9), []);
-    /// # Ok::<(), tiwelzam::Refusal>(())
     /// ```
     pub fn layer_at(&self, layer: usize) -> &[u32] {
         layer_at(&self.operations, &self.offsets, layer)
@@ -47,12 +43,10 @@ impl LayeredOperations {
 /// Whether offsets are sound: one more than the operations, first 0, never falling, last the operations' number.
 ///
 /// ```
-/// # tiwelzam::landed!("tiwelzam_offsets_sound");
 /// use tiwelzam::offsets_sound;
 ///
 /// assert!(offsets_sound(&[0, 2, 1], &[0, 2, 3, 3]));
 /// assert!(!offsets_sound(&[0, 2, 1], &[0, 2, 1, 3]));
-/// # Ok::<(), tiwelzam::Refusal>(())
 /// ```
 pub fn offsets_sound(operations: &[u32], offsets: &[u32]) -> bool {
     let mut word = 0;
@@ -63,13 +57,11 @@ pub fn offsets_sound(operations: &[u32], offsets: &[u32]) -> bool {
 /// One layer, as a part of the operation list; the empty part if the layer is unknown or the offsets are not sound.
 ///
 /// ```
-/// # tiwelzam::landed!("tiwelzam_layer_at");
 /// use tiwelzam::layer_at;
 ///
 /// assert_eq!(layer_at(&[0, 2, 1], &[0, 2, 3, 3], 0), [0, 2]);
 /// assert_eq!(layer_at(&[0, 2, 1], &[0, 2, 3, 3], 3), []);
 /// assert_eq!(layer_at(&[0, 2, 1], &[0, 9, 3, 3], 0), []);
-/// # Ok::<(), tiwelzam::Refusal>(())
 /// ```
 pub fn layer_at<'a>(operations: &'a [u32], offsets: &[u32], layer: usize) -> &'a [u32] {
     let (mut start, mut length) = (0, 0);
@@ -80,14 +72,12 @@ pub fn layer_at<'a>(operations: &'a [u32], offsets: &[u32], layer: usize) -> &'a
 /// The layers of an operation list, first to last; none where the offsets are not sound.
 ///
 /// ```
-/// # tiwelzam::landed!("tiwelzam_offsets_sound");
 /// use tiwelzam::Layers;
 ///
 /// let layers = Layers::new(&[0, 2, 1], &[0, 2, 3, 3]);
 /// assert_eq!(layers.len(), 3);
 /// assert_eq!(layers.map(<[u32]>::len).collect::<Vec<_>>(), [2, 1, 0]);
 /// assert_eq!(Layers::new(&[0, 2, 1], &[0, 9, 3, 3]).len(), 0);
-/// # Ok::<(), tiwelzam::Refusal>(())
 /// ```
 #[derive(Clone, Debug)]
 pub struct Layers<'a> {

@@ -7,7 +7,6 @@
 //! lists. Any lists may be given: a call that cannot take them says why, as a [`Refusal`].
 //!
 //! ```
-//! # tiwelzam::landed!("tiwelzam_layered_operations");
 //! use tiwelzam::{Drawing, Workspace};
 //!
 //! // Operations 0 to 1, 1 to 2, and 0 to 2.
@@ -62,20 +61,3 @@ pub const LIMIT: usize = 4096;
 
 /// The most source values, and the most target values.
 pub const VALUES_LIMIT: usize = 16384;
-
-/// Whether the archive does not have this function yet.
-#[doc(hidden)]
-pub fn absent(name: &str) -> bool {
-    calls::ABSENT.contains(&name)
-}
-
-/// Ends an example or a test of a call that the archive does not have yet.
-#[doc(hidden)]
-#[macro_export]
-macro_rules! landed {
-    ($($name:literal),*) => {
-        if $($crate::absent($name))||* {
-            return Ok(());
-        }
-    };
-}

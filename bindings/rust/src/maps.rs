@@ -47,14 +47,12 @@ impl<'a> Maps<'a> {
     /// Whether both maps are accepted by themselves. Refuses with 1 or 4.
     ///
     /// ```
-    /// # tiwelzam::landed!("tiwelzam_check_maps");
     /// use tiwelzam::{Map, Maps, Refusal};
     ///
     /// let maps = Maps { w: Map { entries: &[0, 2], target: 3 }, ..Maps::default() };
     /// assert_eq!(maps.check(), Ok(()));
     /// let maps = Maps { w: Map { entries: &[0, 3], target: 3 }, ..Maps::default() };
     /// assert_eq!(maps.check(), Err(Refusal::BadEntry));
-    /// # Ok::<(), tiwelzam::Refusal>(())
     /// ```
     pub fn check(&self) -> Result<(), Refusal> {
         done(ask!(tiwelzam_check_maps(maps self)))
@@ -64,7 +62,6 @@ impl<'a> Maps<'a> {
     /// what is no drawing or no map, and with 5 to 10 what is not natural.
     ///
     /// ```
-    /// # tiwelzam::landed!("tiwelzam_validate");
     /// use tiwelzam::{Drawing, Maps, Refusal};
     ///
     /// let lists = (&[1][..], &[0][..], &[1][..]);
@@ -76,7 +73,6 @@ impl<'a> Maps<'a> {
     /// assert_eq!(whole.validate(&drawing, &drawing), Ok(()));
     /// let turned = Maps::into_drawing(&[1, 0], &[0], &drawing);
     /// assert_eq!(turned.validate(&drawing, &drawing), Err(Refusal::NotNaturalS));
-    /// # Ok::<(), tiwelzam::Refusal>(())
     /// ```
     pub fn validate(&self, source: &Drawing, target: &Drawing) -> Result<(), Refusal> {
         done(ask!(tiwelzam_validate(drawing source, drawing target, maps self)))
@@ -85,7 +81,6 @@ impl<'a> Maps<'a> {
     /// Whether no entry stands twice in a map. Refuses with 1 or 4. Looks at no drawing.
     ///
     /// ```
-    /// # tiwelzam::landed!("tiwelzam_is_monomorphism");
     /// use tiwelzam::{Map, Maps, Workspace};
     ///
     /// let mut workspace = Workspace::new();
@@ -102,7 +97,6 @@ impl<'a> Maps<'a> {
     /// [`Maps::is_monomorphism`] in lent memory: as many words as [`Maps::workspace_need`] says, which stand for W.
     ///
     /// ```
-    /// # tiwelzam::landed!("tiwelzam_is_monomorphism");
     /// use tiwelzam::{Map, Maps, Refusal};
     ///
     /// let maps = Maps { w: Map { entries: &[2, 0], target: 3 }, ..Maps::default() };
@@ -110,7 +104,6 @@ impl<'a> Maps<'a> {
     /// assert_eq!(maps.is_monomorphism_in(&mut workspace), Ok(true));
     /// assert_eq!(workspace, [0, 0, 0, 7]);
     /// assert_eq!(maps.is_monomorphism_in(&mut workspace[..2]), Err(Refusal::ShortRoom));
-    /// # Ok::<(), tiwelzam::Refusal>(())
     /// ```
     pub fn is_monomorphism_in(&self, workspace: &mut [u32]) -> Result<bool, Refusal> {
         let mut word = UNWRITTEN;
@@ -123,7 +116,6 @@ impl<'a> Maps<'a> {
     /// Refuses with 1 to 4; maps that are not natural get a plain no.
     ///
     /// ```
-    /// # tiwelzam::landed!("tiwelzam_is_convex_subgraph");
     /// use tiwelzam::{Drawing, Maps, Workspace};
     ///
     /// // Operations 0 to 1, 1 to 2, and 0 to 2.
@@ -167,14 +159,12 @@ impl<'a> Maps<'a> {
     /// [`Maps::is_convex_subgraph`] in lent memory: W words of the target drawing.
     ///
     /// ```
-    /// # tiwelzam::landed!("tiwelzam_is_convex_subgraph");
     /// use tiwelzam::{Drawing, Maps, Refusal};
     ///
     /// let none = Drawing::EMPTY;
     /// let maps = Maps::into_drawing(&[], &[], &none);
     /// assert_eq!(maps.is_convex_subgraph_in(&none, &none, &mut [7; 8]), Ok(true));
     /// assert_eq!(maps.is_convex_subgraph_in(&none, &none, &mut [7; 7]), Err(Refusal::ShortRoom));
-    /// # Ok::<(), tiwelzam::Refusal>(())
     /// ```
     pub fn is_convex_subgraph_in(
         &self,

@@ -9,7 +9,6 @@ const MOST: usize = 8 * (LIMIT + LIMIT) + 2 * (VALUES_LIMIT + VALUES_LIMIT) + 8;
 /// What it held before is of no consequence; afterwards it holds zeros.
 ///
 /// ```
-/// # tiwelzam::landed!("tiwelzam_is_acyclic");
 /// use tiwelzam::{Drawing, Workspace};
 ///
 /// let mut workspace = Workspace::new();

@@ -1,5 +1,5 @@
 //! 01's worked examples, and what is left in lent memory.
-use tiwelzam::{landed, layer_at, offsets_sound, Boundary, Drawing, LayeredOperations, Layering, Layers};
+use tiwelzam::{layer_at, offsets_sound, Boundary, Drawing, LayeredOperations, Layering, Layers};
 use tiwelzam::{Map, Maps, Refusal, Table, Workspace};
 
 type Tested = Result<(), Refusal>;
@@ -75,7 +75,7 @@ fn every_refusal_has_its_number() {
 }
 
 #[test]
-fn drawings_are_checked() -> Tested {
+fn drawings_are_checked() {
     for drawing in [Drawing::EMPTY, ALONE, D, LOOP, TURNING, TWICE, PAIRS] {
         assert_eq!(drawing.check(), Ok(()));
     }
@@ -92,11 +92,10 @@ fn drawings_are_checked() -> Tested {
     let wrapping = Drawing { source_lengths: &[1 << 31, 1 << 31, 3], ..D };
     assert_eq!(wrapping.check(), Err(Refusal::BadLengths));
     assert_eq!(Drawing { targets: &[1, 3, 2], ..D }.check(), Err(Refusal::BadValue));
-    Ok(())
 }
 
 #[test]
-fn maps_are_checked() -> Tested {
+fn maps_are_checked() {
     let maps = |entries, target| Maps { w: Map { entries, target }, ..Maps::default() };
     assert_eq!(Maps::default().check(), Ok(()));
     assert_eq!(maps(&[0, 4095], 4096).check(), Ok(()));
@@ -105,22 +104,19 @@ fn maps_are_checked() -> Tested {
     assert_eq!(maps(&[0], 0).check(), Err(Refusal::BadEntry));
     let x = Maps { x: Map { entries: &[3], target: 3 }, ..Maps::default() };
     assert_eq!(x.check(), Err(Refusal::BadEntry));
-    Ok(())
 }
 
 #[test]
-fn boundaries_are_checked() -> Tested {
+fn boundaries_are_checked() {
     assert_eq!(D.check_boundary(Boundary { inputs: &[0, 0], outputs: &[2] }), Ok(()));
     assert_eq!(D.check_boundary(Boundary { inputs: &[], outputs: &[3] }), Err(Refusal::BadBoundary));
     assert_eq!(D.check_boundary(Boundary { inputs: &[0; 4097], outputs: &[] }), Err(Refusal::OverLimit));
     let bad = Drawing { targets: &[], ..D };
     assert_eq!(bad.check_boundary(Boundary { inputs: &[9], outputs: &[] }), Err(Refusal::BadLengths));
-    Ok(())
 }
 
 #[test]
 fn converses() -> Tested {
-    landed!("tiwelzam_source_converse", "tiwelzam_target_converse");
     assert_eq!(D.source_converse(&mut ws())?, table(&[2, 1, 0], &[0, 2, 1]));
     assert_eq!(D.target_converse(&mut ws())?, table(&[0, 1, 2], &[0, 1, 2]));
     assert_eq!(TWICE.source_converse(&mut ws())?, table(&[2, 0], &[1, 1]));
@@ -133,8 +129,6 @@ fn converses() -> Tested {
 
 #[test]
 fn adjacencies() -> Tested {
-    landed!("tiwelzam_node_adjacency", "tiwelzam_node_adjacency_size");
-    landed!("tiwelzam_operation_adjacency", "tiwelzam_operation_adjacency_size");
     assert_eq!(PAIRS.node_adjacency(&mut ws())?, table(&[0, 4, 0], &[2, 0, 2, 0]));
     assert_eq!(PAIRS.node_adjacency_size(), Ok(4));
     assert_eq!(TWICE.operation_adjacency(&mut ws())?, table(&[2, 0], &[1, 1]));
@@ -146,8 +140,7 @@ fn adjacencies() -> Tested {
 }
 
 #[test]
-fn the_largest_adjacency_is_counted() -> Tested {
-    landed!("tiwelzam_node_adjacency_size", "tiwelzam_operation_adjacency_size");
+fn the_largest_adjacency_is_counted() {
     let hub = Drawing {
         nodes: &[0],
         operations: &[0],
@@ -158,11 +151,10 @@ fn the_largest_adjacency_is_counted() -> Tested {
     };
     assert_eq!(hub.node_adjacency_size(), Ok(1 << 28));
     assert_eq!(hub.operation_adjacency_size(), Ok(1 << 28));
-    Ok(())
 }
 
 #[test]
-fn acyclicity() -> Tested {
+fn acyclicity() {
     for (drawing, acyclic) in
         [(Drawing::EMPTY, true), (ALONE, true), (D, true), (LOOP, false), (TURNING, false)]
     {
@@ -176,12 +168,10 @@ fn acyclicity() -> Tested {
     assert_eq!(workspace, [7; 65]);
     assert_eq!(Drawing { nodes: &[0; 7], ..Drawing::EMPTY }.is_acyclic_in(&mut workspace), Ok(true));
     assert_eq!((&workspace[..64], workspace[64]), (&[0; 64][..], 7));
-    Ok(())
 }
 
 #[test]
 fn layers() -> Tested {
-    landed!("tiwelzam_layer");
     let layering =
         |orders: &[u32], marks: &[u32]| Layering { orders: orders.to_vec(), marks: marks.to_vec() };
     assert_eq!(TURNING.layer(&mut ws())?, layering(&[0; 4], &[1, 1, 1, 0]));
@@ -192,7 +182,6 @@ fn layers() -> Tested {
 
 #[test]
 fn layered() -> Tested {
-    landed!("tiwelzam_layered_operations", "tiwelzam_offsets_sound", "tiwelzam_layer_at");
     let layered = |operations: &[u32], offsets: &[u32], marks: &[u32]| LayeredOperations {
         operations: operations.to_vec(),
         offsets: offsets.to_vec(),
@@ -209,8 +198,7 @@ fn layered() -> Tested {
 }
 
 #[test]
-fn offsets() -> Tested {
-    landed!("tiwelzam_offsets_sound", "tiwelzam_layer_at");
+fn offsets() {
     assert!(offsets_sound(&[], &[0]));
     for offsets in [&[][..], &[1], &[0, 0], &[u32::MAX]] {
         assert!(!offsets_sound(&[], offsets));
@@ -225,12 +213,10 @@ fn offsets() -> Tested {
         assert!(!offsets_sound(&operations, offsets));
         assert_eq!(layer_at(&operations, offsets, 1), []);
     }
-    Ok(())
 }
 
 #[test]
-fn validation() -> Tested {
-    landed!("tiwelzam_validate");
+fn validation() {
     let whole = Maps::into_drawing(&[0, 1, 2], &[0, 1, 2], &D);
     assert_eq!(whole.validate(&D, &D), Ok(()));
     let refused = |maps: Maps, source: Drawing| maps.validate(&source, &D).unwrap_err().number();
@@ -245,12 +231,10 @@ fn validation() -> Tested {
     assert_eq!(refused(whole, Drawing { targets: &[], ..D }), 2);
     assert_eq!(refused(whole, Drawing { targets: &[9, 9, 9], ..D }), 3);
     assert_eq!(refused(Maps::into_drawing(&[0, 1, 3], &[0, 1, 2], &D), D), 4);
-    Ok(())
 }
 
 #[test]
-fn monomorphisms() -> Tested {
-    landed!("tiwelzam_is_monomorphism");
+fn monomorphisms() {
     assert_eq!(Maps::default().is_monomorphism_in(&mut []), Ok(true));
     let maps = |w, x| Maps { w: Map { entries: w, target: 3 }, x: Map { entries: x, target: 4 } };
     assert_eq!(maps(&[0, 2], &[3, 0]).is_monomorphism(&mut ws()), Ok(true));
@@ -261,12 +245,10 @@ fn monomorphisms() -> Tested {
     let mut workspace = [7; 5];
     assert_eq!(maps(&[2, 2], &[3]).is_monomorphism_in(&mut workspace), Ok(false));
     assert_eq!(workspace, [0, 0, 0, 0, 7]);
-    Ok(())
 }
 
 #[test]
-fn convexity() -> Tested {
-    landed!("tiwelzam_is_convex_subgraph");
+fn convexity() {
     let convex = |w: &[u32], x: &[u32], source: Drawing, target: Drawing| {
         Maps::into_drawing(w, x, &target).is_convex_subgraph(&source, &target, &mut ws())
     };
@@ -289,12 +271,10 @@ fn convexity() -> Tested {
     assert_eq!(Maps::default().is_convex_subgraph_in(&nodes, &D, &mut workspace), Ok(false));
     assert!(workspace[..D.workspace_need()].iter().all(|&word| word == 0));
     assert_eq!(workspace.last(), Some(&7));
-    Ok(())
 }
 
 #[test]
 fn evaluation() -> Tested {
-    landed!("tiwelzam_eval");
     let node = Drawing { nodes: &[0], ..Drawing::EMPTY };
     assert_eq!(node.eval(Boundary { inputs: &[0, 0], outputs: &[0] }, &[1, 2], &mut ws())?, [2]);
 

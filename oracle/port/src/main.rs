@@ -1,7 +1,7 @@
 //! Reads cases from standard input and prints every answer of the port, in the oracle's lines. Each call is made
 //! several times, in rooms of several lengths that hold noise; what is left in them is tested, and a line that ends
 //! in `but ...` says what was wrong. `--replay` reads the list that oracle/make-replay makes and prints what
-//! crates/replay must print. `--absent` prints the functions that the archive does not have yet.
+//! crates/replay must print.
 mod answers;
 #[path = "../../program/case.rs"]
 mod case;
@@ -13,10 +13,6 @@ use case::Cases;
 use std::io::{self, BufRead, Write};
 
 fn main() {
-    if std::env::args().nth(1).as_deref() == Some("--absent") {
-        println!("{}", answers::absent().join(" "));
-        return;
-    }
     let replay = std::env::args().nth(1).as_deref() == Some("--replay");
     if let Err(error) = if replay { replay::run() } else { run() } {
         eprintln!("port: {error}");
