@@ -1,4 +1,4 @@
-// The answer's room: all of the program as one function from bytes to bytes.
+// All of the program as one function from bytes to bytes.
 use eval::eval;
 use layers::layer::layer;
 use rules::Done;

@@ -1,4 +1,4 @@
-// The C face: every public call as tiwelzam_NAME, thin over the proved call and with the same promise.
+// The C face: every public call as tiwelzam_NAME, thin over the proved call (but for the layer lookup) and with the same promise.
 //
 // A slice is a pointer and a length. Each returns document 01's refusal number, 0 for none. A yes or no, or a size, is written into one
 // word that the caller lends. Parameters stand in this order: first drawing, second drawing (each w, x, sl, sv, tl, tv: node labels,
@@ -422,7 +422,7 @@ pub extern "C" fn tiwelzam_offsets_sound(operations: &[u32], offsets: &[u32], wo
     0
 }
 
-// Layer i as a part of the operations: where it starts and how long it is.
+// Layer i as a part of the operations: where it starts and how long it is, since C has no part to hand back.
 #[no_mangle]
 pub extern "C" fn tiwelzam_layer_at(
     operations: &[u32],

@@ -33,7 +33,7 @@ pub fn node_adjacency_size(
     }
 }
 
-// For each target, how often its node is listed as a source. A refusal leaves the lent memory untouched, so the counts are local.
+// How often the nodes of all targets are listed as sources, added up. A refusal leaves the lent memory untouched, so the counts are local.
 fn listed_targets(w: &[u32], x: &[u32], sl: &[u32], sv: &[u32], tl: &[u32], tv: &[u32]) -> u32
     requires { ⌜ Accepted (drawing (now w) (now x) (now sl) (now sv) (now tl) (now tv)) ⌝ }
     ensures { λ r. ⌜ r ≡ listings (now (sv .entry)) (now (tv .entry)) ⌝ }

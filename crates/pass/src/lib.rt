@@ -26,7 +26,7 @@ fn work(ws: &mut [u32], base: usize, from: usize, label: u32, places: &[u32], ou
     operation::apply(label, &mut ws[from..end], ins);
 }
 
-// Operation e reads.
+// Operation e reads its inputs and writes its outputs into its own part of the room.
 fn read_one(
     ws: &mut [u32],
     w: &[u32],

@@ -26,7 +26,7 @@ decimal n = spelled 10 n
 abbrev pub item : ℕ → ℕ → List ℕ
 item n b = decimal n ++ (b ∷ [])
 
--- Per operation, from e on, a line: its number, order, mark.
+-- Per operation a line: its number, order, mark. `lines` has those of the operations from e on.
 abbrev pub line : ℕ → ℕ → ℕ → List ℕ
 line e o m = item e 32 ++ (item o 32 ++ item m 10)
 

@@ -1,4 +1,4 @@
-// The rules' room: no code, only the answers that calls give. What must be believed stands in specs/.
+// No code, only the answers that calls give. What must be believed stands in specs/.
 
 // Why a call is refused. `number` of specs/Refusals.antt gives document 01's number.
 pub enum Refusal {

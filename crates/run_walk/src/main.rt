@@ -1,6 +1,6 @@
 // Runs document 01's cases for the walk, and large ones, and prints the verdict, orders, marks and layers of each.
 //
-// Of a long list the first eight entries and each that ends a thousand and twenty-four are printed.
+// Of a long list the first eight entries are printed, and each 1,024th.
 use rules::Done;
 use rules::Refusal;
 use rules::Verdict;

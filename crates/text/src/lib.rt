@@ -1,4 +1,4 @@
-// The text's room: document 01's format, read from lent bytes into lent lists, and the answer written into lent bytes.
+// Document 01's format: a text read from lent bytes into lent lists, and an answer written into lent bytes.
 pub mod reader;
 pub mod writer;
 

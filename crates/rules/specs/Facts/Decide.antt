@@ -1,4 +1,4 @@
--- Tests that compute, each with a proof that it decides its rule: accepted, reached, acyclic, convex.
+-- Tests that compute, each with a proof that it decides its rule: reached, acyclic, no road, no entry twice, convex.
 use Prim.Native.Nat.{ℕ, zero, suc, _<_}
 use native.Mathlib.Omega.{arith}
 use mathlib.Core.Bool.{Bool, true, false, _||_, _&&_, not}

@@ -1,4 +1,4 @@
--- Refused with none of 5 to 10: natural. And injective, by computation.
+-- Refused with none of 5 to 10: natural.
 use Prim.Native.Nat.{ℕ, _<_}
 use native.Mathlib.Omega.{arith}
 use mathlib.Core.Bool.{Bool, true, _&&_}

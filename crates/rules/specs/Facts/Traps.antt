@@ -1,4 +1,4 @@
--- Document 01's traps, worked: which refusal comes first, what is at an edge. Each is found by computing.
+-- What is easily missed in document 01, worked: which refusal comes first, what is at an edge. Each is found by computing.
 use Prim.Native.Nat.{ℕ}
 use mathlib.Core.List.{List, [], _∷_}
 use mathlib.Core.Path.{_≡_, refl}
@@ -11,7 +11,7 @@ use Rattle.rules.specs.Evaluation.{operation, placeOf, storeAll, runLaye
 use Rattle.rules.specs.Calls.{drawingRefusal, mapsRefusal, boundaryRefusal, acyclicRefusal, validateRefusal, naturalRefusal, monomorphismRefusal, convexRefusal, evalRefusal}
 use Rattle.rules.specs.Worked.{empty, D, twoNodes, oneNode, loop, four}
 
--- one operation with a label, from sources to targets, over n nodes of label 0
+-- one operation with a label, from sn sources to tn targets, over n nodes of label 0
 abbrev pub single : (n label : ℕ) (sources targets : List ℕ) (sn tn : ℕ) → Drawing
 single n label sources targets sn tn = drawing (replicate n 0) (label ∷ []) (sn ∷ []) sources (tn ∷ []) targets
 
@@ -19,7 +19,7 @@ single n label sources targets sn tn = drawing (replicate n 0) (label ∷ []) (s
 abbrev pub of : (label input : ℕ) → List ℕ
 of label input = evaluated (single 2 label (0 ∷ []) (1 ∷ []) 1 1) (boundary (0 ∷ []) (1 ∷ [])) (input ∷ [])
 
--- what `eval` says of one operation with inputs at 0, .. and one output
+-- what `eval` is refused with on a drawing, with no boundary, no values, no output and so many words of workspace
 abbrev pub evalOf : Drawing → ℕ → ℕ
 evalOf d room = evalRefusal d (boundary [] []) [] 0 room
 

@@ -1,4 +1,4 @@
--- What is asked where an operation's inputs are at hand and its outputs are not.
+-- What is asked where an operation is computed from its inputs, before it is known how many outputs it has.
 use Prim.Native.Nat.{ℕ}
 use mathlib.Core.Bool.{true}
 use mathlib.Core.Path.{_≡_}
