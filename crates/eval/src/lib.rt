@@ -112,7 +112,7 @@ fn compute(
     let room = base + w.len();
     load(ws, w, x, sl, sv, tl, tv, inputs, outputs, values);
     pass::run_layers(ws, w, x, sl, sv, tl, tv);
-    memory::gather(out, &ws[base..room], outputs);
+    array::gather(out, &ws[base..room], outputs);
 }
 
 // Sorts the operations, decides whether they run, and runs them.

@@ -7,6 +7,14 @@ ghost use Rattle.rules.specs.Lists.{_∈_, at, sameList};
 ghost use Rattle.rules.specs.Maps.{Injective};
 ghost use Rattle.rules.specs.Inner.Decides.{Decides};
 
+// One map after the other: what g makes of each entry of f.
+pub fn compose(out: &mut [u32], f: &[u32], g: &[u32])
+    requires { ⌜ (length (now out) ≡ length (now f)) × ((u : ℕ) → u ∈ now f → u < length (now g)) ⌝ }
+    ensures { λ _. ⌜ now (out .exit) ≡ map (at (now (g .entry))) (now (f .entry)) ⌝ }
+{
+    array::gather(out, g, f);
+}
+
 // Whether a map carries labels: those of its entries are the given ones, in order and as many.
 pub fn carries(labels: &[u32], entries: &[u32], list: &[u32]) -> bool
     requires { ⌜ ((u : ℕ) → u ∈ now entries → u < length (now labels)) ⌝ }

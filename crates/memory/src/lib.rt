@@ -47,18 +47,6 @@ pub fn scatter(memory: &mut [u32], places: &[u32], values: &[u32])
     }
 }
 
-// Reads the values at places.
-pub fn gather(out: &mut [u32], memory: &[u32], places: &[u32])
-    requires { ⌜ (length (now out) ≡ length (now places)) × ((u : ℕ) → u ∈ now places → u < length (now memory)) ⌝ }
-    ensures { λ _. ⌜ now (out .exit) ≡ map (at (now (memory .entry))) (now (places .entry)) ⌝ }
-{
-    let mut i = 0;
-    while i < places.len() {
-        out[i] = memory[places[i] as usize];
-        i += 1;
-    }
-}
-
 // Reads the values at places of the memory that begins at base, and writes them behind it, from a place on.
 pub fn gather_within(ws: &mut [u32], base: usize, to: usize, places: &[u32])
     requires { ⌜ ((u : ℕ) → u ∈ now places → base + u < to) × (to + length (now places) ≤ length (now ws)) ⌝ }

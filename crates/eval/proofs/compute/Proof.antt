@@ -10,7 +10,7 @@ use Rattle.eval.proofs.compute.Tie as tie
 use Rattle.eval.proofs.compute.Reads as reads
 use Rattle.eval.proofs.compute.Lts as lts
 use Rattle.eval.proofs.load.Reads as load-reads
-use Rattle.memory.proofs.gather.Reads as gather-reads
+use Rattle.array.proofs.gather.Reads as gather-reads
 use Rattle.pass.proofs.run_layers.Reads as run-layers-reads
 
 module _ (s : tie.Start) where
