@@ -8,9 +8,8 @@ use Rattle.rules.specs.Drawing.{Drawing, Boundary, opCount}
 use Rattle.rules.specs.Refusals.{firstOf, workspaceNeed}
 use Rattle.rules.specs.Evaluation.{evaluated, unplacedOp, wrongOperation}
 use Rattle.rules.specs.Text.{mostCounted, limits}
-use Rattle.rules.specs.Program.{valuesOrRefused, drawingIn, boundaryIn, valuesIn, answer}
+use Rattle.rules.specs.Program.{valuesOrRefused, drawingIn, boundaryIn, valuesIn, answer, mostWords}
 use Rattle.rules.specs.Facts.TextSections.{Fit}
-use Rattle.rules.specs.Facts.OutputLong.{mostWords}
 use Rattle.text.specs.Reading.{sectionsOf, mostNumbers}
 
 -- The lists of a text are small enough for the rooms that the program has.

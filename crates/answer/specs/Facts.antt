@@ -14,11 +14,11 @@ use Rattle.rules.specs.Evaluation.{evaluated, unplacedOp, wrongOperation}
 use Rattle.rules.specs.Calls.{boundaryRefusal, layerRefusal}
 use Rattle.rules.specs.Promises.{Layer, Eval}
 use Rattle.rules.specs.Text.{limits, wholeText, mostCounted}
-use Rattle.rules.specs.Program.{answer, operationLines, valueLines, refusedLine, outputOf}
+use Rattle.rules.specs.Program.{answer, operationLines, valueLines, refusedLine, outputOf, mostWords, mostWritten}
 use Rattle.rules.specs.Facts.Member.{range-length}
 use Rattle.rules.specs.Facts.TextSections.{Fit}
 use Rattle.rules.specs.Facts.Output.{answer-refused, answer-taken, values-refused, layer-taken, eval-refused}
-use Rattle.rules.specs.Facts.OutputLong.{mostWords, mostWritten, output-long, whole-sized, orders-length, evaluated-length}
+use Rattle.rules.specs.Facts.OutputLong.{output-long, whole-sized, orders-length, evaluated-length}
 use Rattle.rules.specs.Facts.Refusing.{fine-none, faulty-number}
 use Rattle.rules.specs.declared.Refusal.{Refusal}
 use Rattle.rules.specs.declared.Done.{Done}

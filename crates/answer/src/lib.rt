@@ -2,7 +2,7 @@
 use eval::eval;
 use layers::layer::layer;
 use rules::Done;
-use rules::Refusal;
+use rules::number_of;
 use text::Text;
 use text::reader::read_text;
 use text::reader::section;
@@ -13,37 +13,12 @@ ghost use mathlib.Core.Path.{_≡_};
 ghost use Prim.Native.Nat.{_+_, _≤_};
 ghost use lib.ListN.{length};
 ghost use Rattle.rules.specs.Drawing.{drawing, boundary};
-ghost use Rattle.rules.specs.Refusals.{number};
 ghost use Rattle.rules.specs.Calls.{boundaryRefusal, layerRefusal};
 ghost use Rattle.rules.specs.Text.{mostCounted};
-ghost use Rattle.rules.specs.Program.{answer as answerOf, operationLines, outputOf};
-ghost use Rattle.rules.specs.Facts.OutputLong.{mostWords, mostWritten};
+ghost use Rattle.rules.specs.Program.{answer as answerOf, operationLines, outputOf, mostWords, mostWritten};
 ghost use Rattle.text.specs.Reading.{sectionsOf};
 ghost use Rattle.text.specs.Writing.{Put};
 ghost use Rattle.answer.specs.Answering.{Small, Nine, answerIn, closing};
-
-// Document 01's number.
-fn number_of(why: Refusal) -> u32
-    ensures { λ r. ⌜ r ≡ number why ⌝ }
-{
-    match why {
-        Refusal::OverLimit => 1,
-        Refusal::BadLengths => 2,
-        Refusal::BadValue => 3,
-        Refusal::BadEntry => 4,
-        Refusal::TypeMismatchW => 5,
-        Refusal::TypeMismatchX => 6,
-        Refusal::NotNaturalW => 7,
-        Refusal::NotNaturalX => 8,
-        Refusal::NotNaturalS => 9,
-        Refusal::NotNaturalT => 10,
-        Refusal::ShortRoom => 11,
-        Refusal::BadBoundary => 12,
-        Refusal::Unplaced => 13,
-        Refusal::WrongOperation => 14,
-        Refusal::BadText => 15,
-    }
-}
 
 // The operations' header and lines, of a drawing that `layer` does not refuse.
 fn put_layers(

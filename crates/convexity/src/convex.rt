@@ -11,9 +11,8 @@ ghost use Rattle.rules.specs.Drawing.{Accepted, AcceptedMaps, drawing, maps, mo
 ghost use Rattle.rules.specs.Maps.{Convex};
 ghost use Rattle.rules.specs.Promises.{IsConvexSubgraph};
 ghost use Rattle.rules.specs.Refusals.{workspaceNeed};
-ghost use Rattle.rules.specs.Inner.Decides.{Decides};
+ghost use Rattle.rules.specs.Inner.Decides.{Decides, GroupConvex};
 ghost use Rattle.rules.specs.Inner.Selected.{SelectedOps};
-ghost use Rattle.rules.specs.Facts.ConvexDecides.{GroupConvex};
 
 // Of natural maps: whether no entry stands twice and there is no road. In W words of workspace, which it clears.
 fn decide_natural(

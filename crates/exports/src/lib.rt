@@ -5,37 +5,14 @@
 // operation labels, source lengths, source values, target lengths, target values), map w and its declared target, map x and its, boundary
 // inputs, boundary outputs, input values, outputs in document 01's order, workspace, the answer's word.
 use rules::Done;
-use rules::Refusal;
 use rules::Size;
 use rules::Verdict;
+use rules::number_of;
 ghost use mathlib.Core.Path.{_≡_};
 ghost use Rattle.rules.specs.Drawing.{drawing, maps, boundary};
-ghost use Rattle.rules.specs.Refusals.{number, refusalOf};
+ghost use Rattle.rules.specs.Refusals.{refusalOf};
 ghost use Rattle.rules.specs.Faces.{DoneFace, VerdictFace, SizeFace, SoundFace, LayerAtFace, Told, Measured};
 ghost use Rattle.rules.specs.Promises.{CheckDrawing, CheckMaps, CheckBoundary, SourceConverse, TargetConverse, NodeAdjacency, OperationAdjacency, NodeAdjacencySize, OperationAdjacencySize, IsAcyclic, Layer, LayeredOperations, Validate, IsMonomorphism, IsConvexSubgraph, Eval};
-
-// Document 01's number.
-fn number_of(why: Refusal) -> u32
-    ensures { λ r. ⌜ r ≡ number why ⌝ }
-{
-    match why {
-        Refusal::OverLimit => 1,
-        Refusal::BadLengths => 2,
-        Refusal::BadValue => 3,
-        Refusal::BadEntry => 4,
-        Refusal::TypeMismatchW => 5,
-        Refusal::TypeMismatchX => 6,
-        Refusal::NotNaturalW => 7,
-        Refusal::NotNaturalX => 8,
-        Refusal::NotNaturalS => 9,
-        Refusal::NotNaturalT => 10,
-        Refusal::ShortRoom => 11,
-        Refusal::BadBoundary => 12,
-        Refusal::Unplaced => 13,
-        Refusal::WrongOperation => 14,
-        Refusal::BadText => 15,
-    }
-}
 
 // The number of an answer that only refuses or does not.
 fn done(answer: Done) -> u32

@@ -5,7 +5,7 @@ ghost use Prim.Native.Nat.{ℕ, _+_, _≤_, _<_, _^_};
 ghost use lib.ListN.{length, take, drop, getD};
 ghost use Rattle.rules.specs.Lists.{_∈_, at, has, sum, seg};
 ghost use Rattle.rules.specs.Evaluation.{storeAll};
-ghost use Rattle.rules.specs.Facts.Segments.{back};
+ghost use Rattle.rules.specs.Inner.Words.{back};
 
 // Whether a number stands in a list.
 pub fn contains(list: &[u32], a: u32) -> bool

@@ -12,7 +12,7 @@ ghost use Rattle.rules.specs.Drawing.{drawing, nodeCount, targetsOf};
 ghost use Rattle.rules.specs.Analysis.{orders, layers};
 ghost use Rattle.rules.specs.Evaluation.{operation, suits, storeAll, run};
 ghost use Rattle.rules.specs.Inner.Running.{Runs, Reads, ReadUpTo, StoredUpTo, Ran, Ready, worked, memoryAt, memoryOf, outputsIn, operationAt};
-ghost use Rattle.rules.specs.Facts.Segments.{back};
+ghost use Rattle.rules.specs.Inner.Words.{back};
 
 // An operation reads its inputs from the memory at base into its own part of the room, and writes its outputs behind them.
 fn work(ws: &mut [u32], base: usize, from: usize, label: u32, places: &[u32], outs: usize)

@@ -1,3 +1,4 @@
+-- Working definitions: what loops keep and how workspaces are divided. The promises of the public calls cite none of them.
 pub mod Words
 pub mod Incidence
 pub mod Table

@@ -86,3 +86,11 @@ answerTo (broken ls ms k) = refusedLine k
 -- Over 65,536 bytes gives 1; otherwise the first fault from the left, then the checks, then the answer.
 unfoldable pub outputOf : List ℕ → List ℕ
 outputOf t = cond (leb (length t) mostBytes) (answerTo (wholeText t)) (refusedLine 1)
+
+-- the words of workspace that a drawing in a text can need: 8 (256 + 256) + 2 (1024 + 1024) + 8
+abbrev pub mostWords : ℕ
+mostWords = 8200
+
+-- the room for what is written
+abbrev pub mostWritten : ℕ
+mostWritten = 16384

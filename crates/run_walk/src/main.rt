@@ -4,31 +4,7 @@
 use rules::Done;
 use rules::Refusal;
 use rules::Verdict;
-ghost use mathlib.Core.Path.{_≡_};
-ghost use Rattle.rules.specs.Refusals.{number};
-
-// Document 01's number.
-fn number_of(why: Refusal) -> u32
-    ensures { λ r. ⌜ r ≡ number why ⌝ }
-{
-    match why {
-        Refusal::OverLimit => 1,
-        Refusal::BadLengths => 2,
-        Refusal::BadValue => 3,
-        Refusal::BadEntry => 4,
-        Refusal::TypeMismatchW => 5,
-        Refusal::TypeMismatchX => 6,
-        Refusal::NotNaturalW => 7,
-        Refusal::NotNaturalX => 8,
-        Refusal::NotNaturalS => 9,
-        Refusal::NotNaturalT => 10,
-        Refusal::ShortRoom => 11,
-        Refusal::BadBoundary => 12,
-        Refusal::Unplaced => 13,
-        Refusal::WrongOperation => 14,
-        Refusal::BadText => 15,
-    }
-}
+use rules::number_of;
 
 fn put_number(n: u32) {
     io::write_all(1, b" ");

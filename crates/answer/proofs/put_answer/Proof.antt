@@ -15,7 +15,7 @@ use Rattle.answer.proofs.put_answer.Statement.{statement}
 use Rattle.answer.proofs.put_answer.Tie as tie
 use Rattle.answer.proofs.put_answer.Reads as reads
 use Rattle.answer.proofs.put_answer.Lts as lts
-use Rattle.answer.proofs.number_of.Reads as number-of-reads
+use Rattle.rules.proofs.number_of.Reads as number-of-reads
 use Rattle.answer.proofs.put_closing.Reads as put-closing-reads
 use Rattle.answer.proofs.put_layers.Reads as put-layers-reads
 use Rattle.hypergraph.proofs.check.check_boundary.Reads as check-boundary-reads

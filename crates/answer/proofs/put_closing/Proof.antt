@@ -12,7 +12,7 @@ use Rattle.answer.proofs.put_closing.Statement.{statement}
 use Rattle.answer.proofs.put_closing.Tie as tie
 use Rattle.answer.proofs.put_closing.Reads as reads
 use Rattle.answer.proofs.put_closing.Lts as lts
-use Rattle.answer.proofs.number_of.Reads as number-of-reads
+use Rattle.rules.proofs.number_of.Reads as number-of-reads
 use Rattle.eval.proofs.eval.Reads as eval-reads
 use Rattle.text.proofs.writer.put_refused.Reads as put-refused-reads
 use Rattle.text.proofs.writer.put_values.Reads as put-values-reads

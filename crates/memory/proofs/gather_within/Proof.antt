@@ -1,5 +1,5 @@
 use Rattle.rules.specs.Facts.Evaluating.{back-begin, gather-turn, gather-end}
-use Rattle.rules.specs.Facts.Segments.{back}
+use Rattle.rules.specs.Inner.Words.{back}
 use Rattle.rules.specs.Facts.Member.{getD-∈}
 use Rattle.rules.specs.Lists.{at}
 use lib.ListN.{length, getD, take, drop, length-set}

@@ -12,7 +12,7 @@ use Rattle.rules.specs.declared.Verdict.{Verdict}
 use Rattle.rules.specs.declared.Verdict.the-variants.{Yes, No, Refused}
 use Rattle.rules.specs.Facts.ArrowInputs.{convex-early, convex-short, convex-enough, inputs-early}
 use Rattle.rules.specs.Drawing.{Drawing, Maps}
-use Rattle.rules.specs.Inner.Decides.{Decides, Answers}
+use Rattle.rules.specs.Inner.Decides.{Decides, Answers, GroupConvex}
 use Rattle.rules.specs.Maps.{Injective, Road, Convex, nodesOf, opsOf}
 use Rattle.rules.specs.Refusals.{workspaceNeed, number}
 use Rattle.rules.specs.Inner.Arrow.{arrowInputsRefusal}
@@ -23,10 +23,6 @@ use Rattle.rules.specs.Inner.Words.{filled}
 use Rattle.rules.specs.Facts.Naturality.{natural-iff}
 use Rattle.rules.specs.Facts.Refusing.{number-some}
 use Rattle.rules.specs.Facts.Verdicts.{answers-decided, answers-refused}
-
--- what is left to decide for natural maps
-abbrev pub GroupConvex : Drawing → List ℕ → List ℕ → Type 0
-GroupConvex d w x = Injective w × Injective x × (¬ Road d w x)
 
 module _ (d : Drawing) (w x : List ℕ) where
   -- an entry stands twice

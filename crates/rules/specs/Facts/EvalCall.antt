@@ -15,7 +15,7 @@ use Rattle.rules.specs.declared.Done.{Done}
 use Rattle.rules.specs.declared.Done.the-variants.{Fine, Faulty}
 use Rattle.rules.specs.declared.Refusal.{Refusal}
 use Rattle.rules.specs.declared.Refusal.the-variants.{OverLimit, ShortRoom}
-use Rattle.rules.specs.Facts.Segments.{back, back-length, back-seg-before, back-before, back-in, back-seg, seg-length}
+use Rattle.rules.specs.Facts.Segments.{back-length, back-seg-before, back-before, back-in, back-seg, seg-length}
 use Rattle.rules.specs.Inner.Evaluating.{lateRefusal, lateBy, suitsBy, Prepared, earlyRefusal, Attempted, earlyChecks, Evaluated}
 use Rattle.rules.specs.Refusals.{workspaceNeed, early, firstOf, unless, within, number, shortRoom, lengthsFit, boundaryWithin, written, valuesWithin, valuesStand, refusalOf, badLengths, boundaryStands, badValue, badBoundary}
 use Rattle.rules.specs.Analysis.{marks, layers, orders}
@@ -25,7 +25,7 @@ use Rattle.rules.specs.Evaluation.{suitsAt, unplacedOp, wrongOperation, 
 use Rattle.rules.specs.Facts.Member.{∈-range, range-∈}
 use Rattle.rules.specs.Facts.Running.{sources-long, targets-long, runs-kept, back-front}
 use Rattle.rules.specs.Calls.{evalRefusal}
-use Rattle.rules.specs.Inner.Words.{filled}
+use Rattle.rules.specs.Inner.Words.{filled, back}
 use Rattle.rules.specs.Promises.{Eval}
 use Rattle.rules.specs.Inner.Running.{memoryAt, Ran, memoryOf}
 use Rattle.rules.specs.Facts.Refusing.{refused-keeps, Early, number-some, first-behind, early-first, first-append, early-unless, early-left}

@@ -10,7 +10,8 @@ use lib.ListN.{length, getD, set, take, drop, length-set, length-map, drop-of-le
 use lib.Seq.{length-take-le, getD-drop, drop-drop, drop-at, take-at, drop-append-add, set-append-left, paste-suc, take-all}
 use lib.Dec.{ltb}
 use borrow.Author.Tests.{eq-eqb, ne-eqb, ltb-false}
-use Rattle.rules.specs.Facts.Segments.{back, back-before, seg-length, seg-set-in, back-after, seg-at}
+use Rattle.rules.specs.Inner.Words.{back}
+use Rattle.rules.specs.Facts.Segments.{back-before, seg-length, seg-set-in, back-after, seg-at}
 use Rattle.rules.specs.Evaluation.{storeAll}
 use Rattle.rules.specs.Lists.{_∈_, has, seg, at}
 use Rattle.rules.specs.Facts.Counts.{drop-more}

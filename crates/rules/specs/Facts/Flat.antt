@@ -6,7 +6,8 @@ use native.Mathlib.Numerals.{add-one}
 use native.Mathlib.Omega.{arith}
 use lib.ListN.{length, getD, take, drop, length-append, take-append-drop, length-drop}
 use lib.Seq.{take-suc, take-append-le}
-use Rattle.rules.specs.Facts.Segments.{back, back-seg-before, back-seg, back-length}
+use Rattle.rules.specs.Inner.Words.{back}
+use Rattle.rules.specs.Facts.Segments.{back-seg-before, back-seg, back-length}
 use Rattle.rules.specs.Lists.{_∈_, seg, concat, range, rowEntries}
 use Rattle.rules.specs.Analysis.{leaving, nodeNext, opNext}
 use Rattle.rules.specs.Inner.Rows.{Tabled, PutRows, Put, rowOf, flatRow, Joinable, Sections, Tables, putAt, ConverseTable, Starts}

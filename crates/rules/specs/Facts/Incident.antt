@@ -14,13 +14,13 @@ use Rattle.rules.specs.Inner.Incidence.{items, incidence}
 use Rattle.rules.specs.Inner.IncidenceTable.{Offsets, Incident, tableLength}
 use Rattle.rules.specs.Inner.Loops.{Counted, Running, Placing, Cursors, Listed}
 use Rattle.rules.specs.Inner.Table.{successors}
-use Rattle.rules.specs.Inner.Words.{count, below, filled, owners}
+use Rattle.rules.specs.Inner.Words.{count, below, filled, owners, back}
 use Rattle.rules.specs.Facts.Converse.{listing-converse}
 use Rattle.rules.specs.Facts.Counts.{count-above}
 use Rattle.rules.specs.Facts.IncidenceTheorem.{from-node, target-low, from-op}
 use Rattle.rules.specs.Facts.Member.{part-inside}
 use Rattle.rules.specs.Facts.Placing.{sum-take, sum-all, below-le, below-next, below-zero, owners-length, all-starts, all-lists, sum-counts}
-use Rattle.rules.specs.Facts.Segments.{seg-same, back, back-length, back-before, back-in, filled-front, filled-long}
+use Rattle.rules.specs.Facts.Segments.{seg-same, back-length, back-before, back-in, filled-front, filled-long}
 use Rattle.rules.specs.Facts.Tables.{row, tails}
 
 -- a valid drawing's lists are few enough to count

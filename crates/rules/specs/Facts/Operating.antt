@@ -11,11 +11,10 @@ use lib.Dec.{eqb, leb}
 use borrow.Author.Tests.{eqb-true, eq-eqb, ne-eqb, leb-true, le-leb, lt-leb}
 use Rattle.rules.specs.Lists.{at}
 use Rattle.rules.specs.Evaluation.{Operation, copy, add, difference, smallest, largest, middle, choose, firstSmallest, operation, placeOf, most, unknown, least, constant, suits, singles, shift, result}
-use Rattle.rules.specs.Facts.Segments.{back}
 use Rattle.rules.specs.Facts.Tests.{both, not-both}
 use Rattle.rules.specs.Facts.Counts.{drop-more}
 use Rattle.rules.specs.Inner.Operating.{Suited}
-use Rattle.rules.specs.Inner.Words.{filled}
+use Rattle.rules.specs.Inner.Words.{filled, back}
 
 -- the ranges, and the gaps between them
 pub operation-shift : (label : ℕ) → 16 ≤ label → label < 32 → operation label ≡ shift (label - 16)

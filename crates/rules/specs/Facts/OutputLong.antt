@@ -14,14 +14,10 @@ use Rattle.rules.specs.Evaluation.{evaluated, unplacedOp, wrongOperation
 use Rattle.rules.specs.Refusals.{firstOf, workspaceNeed}
 use Rattle.rules.specs.Calls.{boundaryRefusal}
 use Rattle.rules.specs.Text.{Sections, whole, broken, wholeText, limits, mostBytes, mostCounted}
-use Rattle.rules.specs.Program.{lines, operationsHeader, unplacedCount, operationLines, valuesOrRefused, operationsOrRefused, answer, drawingIn, boundaryIn, valuesIn, answerTo, refusedLine, outputOf}
+use Rattle.rules.specs.Program.{mostWords, mostWritten, lines, operationsHeader, unplacedCount, operationLines, valuesOrRefused, operationsOrRefused, answer, drawingIn, boundaryIn, valuesIn, answerTo, refusedLine, outputOf}
 use Rattle.rules.specs.Facts.Member.{range-length}
 use Rattle.rules.specs.Facts.TextSections.{Fit, whole-fits}
 use Rattle.rules.specs.Facts.Writing.{lines-length, header-length, values-length, refused-length}
-
--- the words of workspace that a drawing in a text can need: 8 (256 + 256) + 2 (1024 + 1024) + 8
-abbrev pub mostWords : ℕ
-mostWords = 8200
 
 -- the lists of a whole text, by their limits
 pub record Sized (ls : List (List ℕ)) : Type 0 where
@@ -42,10 +38,6 @@ whole-sized f =
       values = f .each 8;
       workspace = omega (arith, f .each 0, f .each 1, f .each 3, f .each 5);
     }
-
--- the room for what is written
-abbrev pub mostWritten : ℕ
-mostWritten = 16384
 
 pub orders-length : (d : Drawing) → length (orders d) ≡ opCount d
 orders-length d = length-map (range (opCount d)) (order (opNext d) (opCount d)) ∙ range-length (opCount d)

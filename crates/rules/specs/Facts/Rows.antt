@@ -9,12 +9,12 @@ use lib.ListN.{length, getD, take, drop, length-append, length-drop, length-map,
 use lib.Seq.{getD-append-add, getD-drop, take-length, take-append-seam, drop-append-seam, drop-append-add, take-at, drop-drop, take-add, length-take-le, ext-getD}
 use Rattle.rules.specs.Lists.{_∈_, sum, seg, concat, range, rowLengths, rowEntries}
 use Rattle.rules.specs.Drawing.{part}
-use Rattle.rules.specs.Facts.Segments.{back, filled-long, filled-front, filled-rest}
+use Rattle.rules.specs.Facts.Segments.{filled-long, filled-front, filled-rest}
 use Rattle.rules.specs.Inner.Rows.{rowOf, Sections, Tabled, Starts, putAt}
 use Rattle.rules.specs.Facts.Converse.{map-append}
 use Rattle.rules.specs.Facts.Placing.{sum-take-le, sum-all, sum-take}
 use Rattle.rules.specs.Facts.Member.{range-length, map-range}
-use Rattle.rules.specs.Inner.Words.{filled, counts, count}
+use Rattle.rules.specs.Inner.Words.{filled, counts, count, back}
 use Rattle.rules.specs.Inner.Loops.{Counted}
 use Rattle.rules.specs.Facts.Counts.{count-above}
 

@@ -11,7 +11,7 @@ use mathlib.Core.Path.{_≡_, refl, sym, ap, _∙_}
 use lib.ListN.{length, getD, take, drop, length-append, length-map, take-append-drop, drop-of-length-le}
 use lib.Seq.{length-take-le, getD-take, take-at, drop-at, take-take, take-all, drop-drop, drop-append-seam, take-append-seam, drop-cons}
 use Rattle.rules.specs.Lists.{_∈_, at, sum, seg, those, range, concat}
-use Rattle.rules.specs.Facts.Segments.{back, seg-in-take, seg-length, back-length, back-seg-before, back-seg-after, seg-at, back-seg}
+use Rattle.rules.specs.Facts.Segments.{seg-in-take, seg-length, back-length, back-seg-before, back-seg-after, seg-at, back-seg}
 use Rattle.rules.specs.Drawing.{Drawing, Accepted, part, nodeCount, Fits, opCount, sourcesOf, targetsOf, mostItems, mostValues}
 use Rattle.rules.specs.Inner.Running.{memoryAt, Runs, outputsAt, Tables, inputsAt, worked, memoryOf, Reads, outputsIn, roomAt, Ready, runRest, ReadUpTo, operationAt, StoredUpTo, Ran}
 use Rattle.rules.specs.Refusals.{workspaceNeed}
@@ -21,7 +21,7 @@ use Rattle.rules.specs.Evaluation.{result, outputsOf, suits, operation, 
 use Rattle.rules.specs.Facts.Member.{∈-part, ∈-range, concat-e, getD-∈}
 use Rattle.rules.specs.Facts.Operating.{outputs-length}
 use Rattle.rules.specs.Analysis.{orders, layerOffsets, layerOperations, layerOf, layers}
-use Rattle.rules.specs.Inner.Words.{below}
+use Rattle.rules.specs.Inner.Words.{below, back}
 use Rattle.rules.specs.Facts.Layers.{orders-low, offset-at, layer-inside, operations-length, layers-length, layer-at}
 use Rattle.rules.specs.Facts.Orders.{orders-sorted}
 use Rattle.rules.specs.Facts.Counts.{drop-more}

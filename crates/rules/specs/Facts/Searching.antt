@@ -13,9 +13,9 @@ use Rattle.rules.specs.Inner.Walk.{Laid, queueOf}
 use Rattle.rules.specs.Inner.Table.{Table, successors}
 use Rattle.rules.specs.Facts.Tables.{row-end, row}
 use Rattle.rules.specs.Facts.Search.{grown-both, old-item, grown-none, search-step, search-seed, new-marked, new-room, new-item, none-marked, all-found, search-first}
-use Rattle.rules.specs.Facts.Segments.{seg-in-take, seg-set-high, seg-length, seg-set-low, seg-at, seg-set-in, back, filled-length, back-length, back-seg-before, back-in, filled-at}
+use Rattle.rules.specs.Facts.Segments.{seg-in-take, seg-set-high, seg-length, seg-set-low, seg-at, seg-set-in, filled-length, back-length, back-seg-before, back-in, filled-at}
 use Rattle.rules.specs.Facts.Member.{getD-∈}
-use Rattle.rules.specs.Inner.Words.{filled}
+use Rattle.rules.specs.Inner.Words.{filled, back}
 
 -- item j is reached
 module _ {k c tail : ℕ} {ws : List ℕ} (a : Laid k c ws) (h : Held k c tail ws) (j : ℕ) where

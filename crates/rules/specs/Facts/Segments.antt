@@ -6,7 +6,7 @@ use native.Mathlib.Omega.{arith}
 use lib.ListN.{length, getD, take, drop, set, length-take, length-drop, length-append, List·getD-append, replicate, length-replicate, getD-replicate}
 use lib.Seq.{length-take-le, getD-append-add, getD-take, getD-drop, ext-getD, take-set-le, drop-set-lt, take-set-lt, drop-set-add, take-take}
 use Rattle.rules.specs.Lists.{seg}
-use Rattle.rules.specs.Inner.Words.{filled}
+use Rattle.rules.specs.Inner.Words.{filled, back}
 
 module _ (base len : ℕ) (ws : List ℕ) where
   pub seg-at : (i : ℕ) → i < len → getD (seg base len ws) i 0 ≡ getD ws (base + i) 0
@@ -39,10 +39,6 @@ seg-in-take (suc base) zero b ws h = refl
 seg-in-take (suc base) (suc len) zero ws h = absurd (omega arith)
 seg-in-take (suc base) (suc len) (suc b) [] h = refl
 seg-in-take (suc base) (suc len) (suc b) (a ∷ ws) h = seg-in-take base (suc len) b ws (omega arith)
-
--- a part `&mut ws[a..e]` that has come back as ys: what the borrow checker says of the whole
-abbrev pub back : ℕ → ℕ → List ℕ → List ℕ → List ℕ
-back a k ys ws = take a ws ++ (ys ++ drop k (drop a ws))
 
 module _ (a k : ℕ) (ys ws : List ℕ) (fits : a + k ≤ length ws) (long : length ys ≡ k) where
   head-long : length (take a ws) ≡ a

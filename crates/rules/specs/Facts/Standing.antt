@@ -12,11 +12,11 @@ use Rattle.rules.specs.Lists.{_∈_, seg}
 use Rattle.rules.specs.Inner.Loops.{Raised}
 use Rattle.rules.specs.Inner.Table.{Table, successors, Walked}
 use Rattle.rules.specs.Inner.Walk.{Laid, Standing, Releasable, Released, left, lowered, deepened, degreesOf, queueOf, depthsOf}
-use Rattle.rules.specs.Inner.Words.{filled, upFrom, count}
+use Rattle.rules.specs.Inner.Words.{filled, upFrom, count, back}
 use Rattle.rules.specs.Facts.Counts.{drop-more, count-above}
 use Rattle.rules.specs.Facts.Kahn.{low, some-left, room-left, follow-one, begin, rested, in-hand, take-up, sorted}
 use Rattle.rules.specs.Facts.Member.{∈-getD}
-use Rattle.rules.specs.Facts.Segments.{back, back-length, back-before, back-in, filled-length, filled-at, seg-same, seg-in-take, seg-at, seg-length, seg-set-in, seg-set-low, seg-set-high}
+use Rattle.rules.specs.Facts.Segments.{back-length, back-before, back-in, filled-length, filled-at, seg-same, seg-in-take, seg-at, seg-length, seg-set-in, seg-set-low, seg-set-high}
 use Rattle.rules.specs.Facts.Tables.{tails, flat, row, left-all}
 
 -- the stores of `release`, without and with a new item of the queue

@@ -10,13 +10,13 @@ use lib.Seq.{take-at, getD-drop}
 use borrow.Author.Tests.{eq-eqb, ne-eqb}
 use lib.Dec.{eqb}
 use Rattle.rules.specs.Lists.{_∈_, seg, has}
-use Rattle.rules.specs.Inner.Words.{count}
+use Rattle.rules.specs.Inner.Words.{count, back}
 use Rattle.rules.specs.Drawing.{Drawing, Accepted, nodeCount, sourcesOf, opCount}
 use Rattle.rules.specs.Inner.IncidenceTable.{tableLength, Incident}
 use Rattle.rules.specs.Refusals.{workspaceNeed}
 use Rattle.rules.specs.Inner.Selected.{Flags, unselected, marksFrom, Roomy, unflagged, SelectedOps, Filtered, TwoTables, clear}
 use Rattle.rules.specs.Inner.Table.{Table}
-use Rattle.rules.specs.Facts.Segments.{back-seg-before, back, back-length, seg-length, back-in}
+use Rattle.rules.specs.Facts.Segments.{back-seg-before, back-length, seg-length, back-in}
 use Rattle.rules.specs.Inner.Incidence.{items, incidence}
 use Rattle.rules.specs.Inner.Walk.{Laid}
 use Rattle.rules.specs.Facts.Member.{part-inside, has-yes, has-no, dec∈}

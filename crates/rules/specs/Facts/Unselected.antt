@@ -11,12 +11,12 @@ use lib.Seq.{take-nil, take-suc, take-suc-set, drop-set-lt, take-take, drop-drop
 use borrow.Author.Tests.{ne-eqb}
 use Rattle.rules.specs.Lists.{_∈_, seg, those, rowEntries}
 use Rattle.rules.specs.Inner.Selected.{Rowed, Kept, clear, Flags, Roomy, Filtering, Filtered}
-use Rattle.rules.specs.Facts.Segments.{seg-in-take, seg-at, seg-length, seg-set-low, filled-at, filled-length, back, back-in, back-length}
+use Rattle.rules.specs.Facts.Segments.{seg-in-take, seg-at, seg-length, seg-set-low, filled-at, filled-length, back-in, back-length}
 use Rattle.rules.specs.Inner.Search.{Row, otherTable}
 use Rattle.rules.specs.Inner.Table.{successors, Table}
 use Rattle.rules.specs.Facts.Tables.{row, row-end}
 use Rattle.rules.specs.Inner.Loops.{Counted}
-use Rattle.rules.specs.Inner.Words.{filled, count}
+use Rattle.rules.specs.Inner.Words.{filled, count, back}
 use Rattle.rules.specs.Facts.Counts.{count-above}
 use Rattle.rules.specs.Inner.Walk.{Laid}
 use Rattle.rules.specs.Facts.Rows.{entries-le, entries-next, row-in, entries-suc}

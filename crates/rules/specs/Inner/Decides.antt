@@ -4,6 +4,8 @@ use mathlib.Core.Bool.{Bool, true, false}
 use mathlib.Core.List.{List}
 use mathlib.Core.Path.{_≡_}
 use lib.ListN.{replicate}
+use Rattle.rules.specs.Drawing.{Drawing}
+use Rattle.rules.specs.Maps.{Injective, Road}
 use Rattle.rules.specs.Refusals.{verdictRefusal, leftOver}
 use Rattle.rules.specs.declared.Verdict.{Verdict}
 use Rattle.rules.specs.declared.Verdict.the-variants.{Yes, No}
@@ -20,3 +22,7 @@ pub record Answers (P : Type 0) (refused words : ℕ) (ws ws' : List ℕ) (r : V
   pub yes : r ≡ Yes → P
   pub no : r ≡ No → ¬ P
   pub workspace : ws' ≡ leftOver (verdictRefusal r) words ws
+
+-- what is left to decide for natural maps
+abbrev pub GroupConvex : Drawing → List ℕ → List ℕ → Type 0
+GroupConvex d w x = Injective w × Injective x × (¬ Road d w x)

@@ -2,7 +2,7 @@
 use Prim.Native.Nat.{ℕ, zero, suc, _+_, _*_}
 use mathlib.Core.Bool.{Bool, true, false, cond}
 use mathlib.Core.List.{List, [], _∷_, _++_, map}
-use lib.ListN.{drop, replicate}
+use lib.ListN.{take, drop, replicate}
 use lib.Dec.{eqb, ltb}
 use Rattle.rules.specs.Lists.{sum, range}
 
@@ -61,3 +61,7 @@ unfoldable pub listing : ℕ → List ℕ → List ℕ → List ℕ
 listing v [] l = []
 listing v (o ∷ os) [] = []
 listing v (o ∷ os) (x ∷ l) = cond (eqb x v) (o ∷ listing v os l) (listing v os l)
+
+-- a part `&mut ws[a..e]` that has come back as ys: what the borrow checker says of the whole
+abbrev pub back : ℕ → ℕ → List ℕ → List ℕ → List ℕ
+back a k ys ws = take a ws ++ (ys ++ drop k (drop a ws))

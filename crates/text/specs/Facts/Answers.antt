@@ -7,9 +7,9 @@ use lib.ListN.{length}
 use Rattle.rules.specs.Drawing.{Drawing}
 use Rattle.rules.specs.Analysis.{orders, marks}
 use Rattle.rules.specs.Text.{Sections, whole, broken, wholeText, mostBytes}
-use Rattle.rules.specs.Program.{operationLines, refusedLine, answer, drawingIn, boundaryIn, valuesIn, outputOf}
+use Rattle.rules.specs.Program.{operationLines, refusedLine, answer, drawingIn, boundaryIn, valuesIn, outputOf, mostWritten}
 use Rattle.rules.specs.Facts.Output.{output-broken, output-whole}
-use Rattle.rules.specs.Facts.OutputLong.{mostWritten, output-long, orders-length}
+use Rattle.rules.specs.Facts.OutputLong.{output-long, orders-length}
 use Rattle.text.specs.declared.Text.{Text}
 use Rattle.text.specs.declared.Text.the-variants.{Read as TextRead, Refused as TextRefused}
 use Rattle.text.specs.Reading.{textAnswer, ReadText, sectionsOf}

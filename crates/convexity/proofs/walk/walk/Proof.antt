@@ -5,7 +5,7 @@ use native.Mathlib.Omega.{arith}
 use lib.ListN.{length, getD, take}
 use Rattle.rules.specs.Inner.Search.{Pair, Searching}
 use Rattle.rules.specs.Inner.Walk.{Laid}
-use Rattle.rules.specs.Facts.Segments.{back}
+use Rattle.rules.specs.Inner.Words.{back}
 use Rattle.rules.specs.Facts.Searching.{Unmarked, unmarked-long, unmarked-front, unmarked-clear, pair-same, searching-first, searching-from, searching-step, searching-last, head-low, table-row, full-same, other-same}
 use Rattle.rules.specs.Facts.Standing.{still-laid}
 use borrow.Author.Needs.{needs}
