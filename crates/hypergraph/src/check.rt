@@ -37,8 +37,10 @@ fn values_stand(w: &[u32], x: &[u32], sl: &[u32], sv: &[u32], tl: &[u32], tv: &[
 pub fn check_lists(w: &[u32], x: &[u32], sl: &[u32], sv: &[u32], tl: &[u32], tv: &[u32]) -> Done
     ensures { λ r. ⌜ refusalOf r ≡ listsRefusal (drawing (now (w .entry)) (now (x .entry)) (now (sl .entry)) (now (sv .entry)) (now (tl .entry)) (now (tv .entry))) ⌝ }
 {
-    if lengths_fit(w, x, sl, sv, tl, tv) {
-        if values_stand(w, x, sl, sv, tl, tv) {
+    let fit = lengths_fit(w, x, sl, sv, tl, tv);
+    let stand = values_stand(w, x, sl, sv, tl, tv);
+    if fit {
+        if stand {
             Done::Fine
         } else {
             Done::Faulty(Refusal::BadValue)

@@ -1,7 +1,8 @@
 // Two tables joined: each entry of the first gives way to its row of the second.
 ghost use Prim.Native.Nat.{ℕ, _+_, _≤_, _<_};
 ghost use mathlib.Core.List.{map};
-ghost use lib.ListN.{length};
+ghost use mathlib.Core.Path.{_≡_};
+ghost use lib.ListN.{length, getD};
 ghost use Rattle.rules.specs.Lists.{_∈_, concat, rowEntries};
 ghost use Rattle.rules.specs.Inner.Rows.{rowOf, Sections, Put, flatRow, Joinable, PutRows};
 
@@ -18,6 +19,14 @@ fn copy_row(off: &[u32], rows: &[u32], j: usize, vals: &mut [u32], at: usize) ->
     to
 }
 
+// Which row a list names at place p.
+fn row_at(list: &[u32], p: usize) -> u32
+    requires { ⌜ p < length (now list) ⌝ }
+    ensures { λ r. ⌜ r ≡ getD (now (list .entry)) p 0 ⌝ }
+{
+    list[p]
+}
+
 // The rows that a list names are put into an output, one behind the other. Gives the place behind them.
 fn copy_rows(list: &[u32], off: &[u32], rows: &[u32], vals: &mut [u32], at: usize) -> usize
     requires { ⌜ Sections (now off) (now rows) × ((u : ℕ) → u ∈ now list → u + 1 < length (now off)) ⌝ }
@@ -27,7 +36,7 @@ fn copy_rows(list: &[u32], off: &[u32], rows: &[u32], vals: &mut [u32], at: usiz
     let mut to = at;
     let mut p = 0;
     while p < list.len() {
-        to = copy_row(off, rows, list[p] as usize, vals, to);
+        to = copy_row(off, rows, row_at(list, p) as usize, vals, to);
         p += 1;
     }
     to

@@ -1,7 +1,7 @@
 // Memory: words that are read and written at listed places, in a slice of their own or within a workspace.
 ghost use mathlib.Core.List.{map};
 ghost use mathlib.Core.Path.{_≡_};
-ghost use Prim.Native.Nat.{ℕ, _+_, _≤_, _<_, _^_};
+ghost use Prim.Native.Nat.{ℕ, _+_, _≤_, _<_, _^_, min};
 ghost use lib.ListN.{length, take, drop, getD};
 ghost use Rattle.rules.specs.Lists.{_∈_, at, has, sum, seg};
 ghost use Rattle.rules.specs.Evaluation.{storeAll};
@@ -35,15 +35,24 @@ pub fn starts(t: &mut [u32], lens: &[u32])
     }
 }
 
+// How many numbers the shorter of two lists has.
+fn shorter(a: &[u32], b: &[u32]) -> usize
+    ensures { λ r. ⌜ r ≡ min (length (now (a .entry))) (length (now (b .entry))) ⌝ }
+{
+    if b.len() < a.len() { b.len() } else { a.len() }
+}
+
 // Stores values at places one by one, stopping at the shorter list, later ones over earlier ones.
 pub fn scatter(memory: &mut [u32], places: &[u32], values: &[u32])
     requires { ⌜ ((u : ℕ) → u ∈ now places → u < length (now memory)) ⌝ }
     ensures { λ _. ⌜ now (memory .exit) ≡ storeAll (now (places .entry)) (now (values .entry)) (now (memory .entry)) ⌝ }
 {
-    let mut i = 0;
-    while (i < places.len()) & (i < values.len()) {
+    let count = shorter(places, values);
+    let mut left = count;
+    while 0 < left {
+        let i = count - left;
         memory[places[i] as usize] = values[i];
-        i += 1;
+        left -= 1;
     }
 }
 

@@ -105,7 +105,7 @@ fn read_layer(
     }
 }
 
-// The operations at the places from lo up to hi, which have read, store their outputs.
+// The operations at the places from lo up to hi, which have read, store their outputs, in this order.
 fn store_layer(
     ws: &mut [u32],
     w: &[u32],
@@ -123,11 +123,13 @@ fn store_layer(
     ensures { λ _. ⌜ StoredUpTo (drawing (now (w .entry)) (now (x .entry)) (now (sl .entry)) (now (sv .entry)) (now (tl .entry)) (now (tv .entry))) lo hi (now (ws .entry)) (now (ws .exit)) ⌝ }
 {
     let operations = 2 * x.len();
-    let mut p = lo;
-    while p < hi {
+    let count = hi - lo;
+    let mut left = count;
+    while 0 < left {
+        let p = lo + count - left;
         let e = ws[operations + p] as usize;
         store_one(ws, w, x, sl, sv, tl, tv, e);
-        p += 1;
+        left -= 1;
     }
 }
 

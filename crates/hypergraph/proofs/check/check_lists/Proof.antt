@@ -18,17 +18,17 @@ values-stand-requires c κs = search needs
 -- src/check.rt:37:1
 returns : tie.Need-returns
 unfolding listsRefusal
-returns c = rw (← c .before .values-stand .ensures, ← c .before .before .before .lengths-fit .ensures, c .before .before .if1 .taken, c .if2 .taken)
+returns c = rw (← c .before .before .values-stand .ensures, ← c .before .before .before .lengths-fit .ensures, c .before .if1 .taken, c .if2 .taken)
 
 -- src/check.rt:37:1
 returns-2 : tie.Need-returns-2
 unfolding listsRefusal
-returns-2 c = rw (← c .before .values-stand .ensures, ← c .before .before .before .lengths-fit .ensures, c .before .before .if1 .taken, c .if2 .left)
+returns-2 c = rw (← c .before .before .values-stand .ensures, ← c .before .before .before .lengths-fit .ensures, c .before .if1 .taken, c .if2 .left)
 
 -- src/check.rt:37:1
 returns-3 : tie.Need-returns-3
 unfolding listsRefusal
-returns-3 c = rw (← c .before .lengths-fit .ensures, c .if1 .left)
+returns-3 c = rw (← c .before .before .lengths-fit .ensures, c .if1 .left)
 
 pub check-lists-spec : {M : Type 1} → statement M
 check-lists-spec =

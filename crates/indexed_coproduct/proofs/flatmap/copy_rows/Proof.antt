@@ -10,6 +10,7 @@ use Rattle.indexed_coproduct.proofs.flatmap.copy_rows.Tie as tie
 use Rattle.indexed_coproduct.proofs.flatmap.copy_rows.Reads as reads
 use Rattle.indexed_coproduct.proofs.flatmap.copy_rows.Lts as lts
 use Rattle.indexed_coproduct.proofs.flatmap.copy_row.Reads as copy-row-reads
+use Rattle.indexed_coproduct.proofs.flatmap.row_at.Reads as row-at-reads
 use Rattle.rules.specs.Facts.Flat.{put-more, put-nothing, put-long, rows-more, rows-within}
 use Rattle.rules.specs.Inner.Rows.{Put, rowOf}
 use Rattle.rules.specs.Lists.{concat}
@@ -57,23 +58,16 @@ module _ (c : tie.In-loop Inv-loop μ-loop) where
 loop-holds : tie.Need-loop-holds Inv-loop μ-loop
 loop-holds c = (omega arith, put-nothing (c .before .before .before .before .args .at) (c .before .before .before .before .args .vals .now))
 
--- src/flatmap.rt:30:34
-mul-copy-row : tie.Need-mul-copy-row Inv-loop μ-loop
-mul-copy-row c = search needs
+row-at-requires : tie.Need-row-at-requires Inv-loop μ-loop
+row-at-requires c κs = search needs
 
--- src/flatmap.rt:30:34
-shared-slice-read-copy-row : tie.Need-shared-slice-read-copy-row Inv-loop μ-loop
-shared-slice-read-copy-row c = search needs
-
--- src/flatmap.rt:30:34
 cast-copy-row : tie.Need-cast-copy-row Inv-loop μ-loop
-cast-copy-row c = omega (arith, c .shared-slice-known4 .given (c .before .before .loop .p))
+cast-copy-row c = search needs
 
--- src/flatmap.rt:30:9
 copy-row-requires : tie.Need-copy-row-requires Inv-loop μ-loop
 copy-row-requires c κs =
     let i = c .before .before in
-    ((s i .pre .0 .0, named i), fits i)
+    rw (c .before .row-at .ensures) ((s i .pre .0 .0, named i), fits i)
 
 -- src/flatmap.rt:31:9
 add-p : tie.Need-add-p Inv-loop μ-loop
@@ -87,7 +81,7 @@ loop-less c = search needs
 loop-again : tie.Need-loop-again Inv-loop μ-loop
 loop-again c =
     let i = c .before .before .before .before .before in
-    (omega arith, rw (more i) (put-more (before i) (i .before .loop .inv .1) (c .before .before .copy-row .ensures)))
+    (omega arith, rw (more i) (put-more (before i) (i .before .loop .inv .1) (rw (c .before .before .before .before .row-at .ensures) at (c .before .before .copy-row .ensures))))
 
 -- src/flatmap.rt:22:1
 same-length : tie.Need-same-length Inv-loop μ-loop
@@ -108,8 +102,7 @@ copy-rows-spec =
     Inv-loop
     μ-loop
     loop-holds
-    mul-copy-row
-    shared-slice-read-copy-row
+    row-at-requires
     cast-copy-row
     copy-row-requires
     add-p
