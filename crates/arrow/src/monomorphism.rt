@@ -2,7 +2,7 @@
 use rules::Done;
 use rules::Refusal;
 use rules::Verdict;
-ghost use Prim.Native.Nat.{ℕ, _<_, _^_};
+ghost use Prim.Native.Nat.{ℕ, _<_};
 ghost use lib.ListN.{length};
 ghost use Rattle.rules.specs.Lists.{_∈_};
 ghost use Rattle.rules.specs.Drawing.{maps};
@@ -10,17 +10,17 @@ ghost use Rattle.rules.specs.Maps.{Injective};
 ghost use Rattle.rules.specs.Promises.{IsMonomorphism};
 ghost use Rattle.rules.specs.Inner.Decides.{Decides};
 
-// Whether no entry stands twice in w and none in x, in lent words, one for each number below either target.
-// They are zero afterwards, also where x is not looked at.
+// Whether no entry stands twice in w and none in x, in lent words, one for each number below either target: an entry of w gets
+// the mark 1, one of x then the mark 2. The words are zero afterwards.
 pub fn both_injective(fw: &[u32], fx: &[u32], seen: &mut [u32]) -> bool
     requires { ⌜ ((u : ℕ) → u ∈ now fw → u < length (now seen)) × ((u : ℕ) → u ∈ now fx → u < length (now seen)) ⌝ }
-    requires { ⌜ (length (now fw) < 2 ^ 32) × (length (now fx) < 2 ^ 32) ⌝ }
     ensures { λ r. ⌜ Decides (Injective (now (fw .entry)) × Injective (now (fx .entry))) (length (now (seen .entry))) (now (seen .exit)) r ⌝ }
 {
-    if !finite_function::is_injective(fw, seen) {
-        return false;
-    }
-    finite_function::is_injective(fx, seen)
+    let d = seen.len();
+    array::fill(seen, d, 0);
+    let once = finite_function::each_once(fw, seen, 1) & finite_function::each_once(fx, seen, 2);
+    array::fill(seen, d, 0); // also where an entry stands twice
+    once
 }
 
 // Whether no entry stands twice in w and none in x. Lent a workspace of as many words as the larger declared target, or more.

@@ -7,7 +7,7 @@ ghost use mathlib.Core.Path.{_≡_};
 ghost use Prim.Native.Nat.{ℕ, _<_, _≤_};
 ghost use lib.ListN.{length};
 ghost use Rattle.rules.specs.Lists.{_∈_};
-ghost use Rattle.rules.specs.Drawing.{Accepted, AcceptedMaps, drawing, maps, mostItems, nodeCount};
+ghost use Rattle.rules.specs.Drawing.{Accepted, AcceptedMaps, drawing, maps, nodeCount};
 ghost use Rattle.rules.specs.Maps.{Convex};
 ghost use Rattle.rules.specs.Promises.{IsConvexSubgraph};
 ghost use Rattle.rules.specs.Refusals.{workspaceNeed};
@@ -28,11 +28,14 @@ fn decide_natural(
     fx: &[u32],
 ) -> bool
     requires { ⌜ Accepted (drawing (now dw) (now dx) (now dsl) (now dsv) (now dtl) (now dtv)) ⌝ }
-    requires { ⌜ ((v : ℕ) → v ∈ now fw → v < nodeCount (drawing (now dw) (now dx) (now dsl) (now dsv) (now dtl) (now dtv))) × (length (now fw) ≤ mostItems) × SelectedOps (drawing (now dw) (now dx) (now dsl) (now dsv) (now dtl) (now dtv)) (now fx) ⌝ }
+    requires { ⌜ ((v : ℕ) → v ∈ now fw → v < nodeCount (drawing (now dw) (now dx) (now dsl) (now dsv) (now dtl) (now dtv))) × SelectedOps (drawing (now dw) (now dx) (now dsl) (now dsv) (now dtl) (now dtv)) (now fx) ⌝ }
     requires { ⌜ length (now ws) ≡ workspaceNeed (drawing (now dw) (now dx) (now dsl) (now dsv) (now dtl) (now dtv)) ⌝ }
     ensures { λ r. ⌜ Decides (GroupConvex (drawing (now (dw .entry)) (now (dx .entry)) (now (dsl .entry)) (now (dsv .entry)) (now (dtl .entry)) (now (dtv .entry))) (now (fw .entry)) (now (fx .entry))) (workspaceNeed (drawing (now (dw .entry)) (now (dx .entry)) (now (dsl .entry)) (now (dsv .entry)) (now (dtl .entry)) (now (dtv .entry)))) (now (ws .exit)) r ⌝ }
 {
-    if !arrow::monomorphism::both_injective(fw, fx, ws) {
+    let items = dw.len() + dx.len();
+    if !arrow::monomorphism::both_injective(fw, fx, &mut ws[..items]) {
+        let all = ws.len();
+        array::fill(ws, all, 0);
         return false;
     }
     !has_road(ws, dw, dx, dsl, dsv, dtl, dtv, fw, fx)

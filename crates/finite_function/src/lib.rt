@@ -1,11 +1,10 @@
 // Finite functions: the entries of a map, below a declared target.
 ghost use mathlib.Core.List.{map};
 ghost use mathlib.Core.Path.{_≡_};
-ghost use Prim.Native.Nat.{ℕ, _<_, _^_};
-ghost use lib.ListN.{length};
+ghost use Prim.Native.Nat.{ℕ, _<_};
+ghost use lib.ListN.{length, getD};
 ghost use Rattle.rules.specs.Lists.{_∈_, at, sameList};
-ghost use Rattle.rules.specs.Maps.{Injective};
-ghost use Rattle.rules.specs.Inner.Decides.{Decides};
+ghost use Rattle.finite_function.specs.Marks.{EachOnce};
 
 // Whether a map carries labels: those of its entries are the given ones, in order and as many.
 pub fn carries(labels: &[u32], entries: &[u32], list: &[u32]) -> bool
@@ -15,17 +14,19 @@ pub fn carries(labels: &[u32], entries: &[u32], list: &[u32]) -> bool
     array::same_through(labels, entries, list)
 }
 
-// Whether no entry stands twice, by counts in the lent words, one for each number below the target.
-// They are zero afterwards.
-pub fn is_injective(entries: &[u32], seen: &mut [u32]) -> bool
-    requires { ⌜ ((u : ℕ) → u ∈ now entries → u < length (now seen)) ⌝ }
-    requires { ⌜ length (now entries) < 2 ^ 32 ⌝ }
-    ensures { λ r. ⌜ Decides (Injective (now (entries .entry))) (length (now (seen .entry))) (now (seen .exit)) r ⌝ }
+// Whether no entry stands twice. Each entry's word gets a mark, which is larger than anything that stands there before.
+pub fn each_once(entries: &[u32], seen: &mut [u32], mark: u32) -> bool
+    requires { ⌜ ((u : ℕ) → u ∈ now entries → u < length (now seen)) × ((v : ℕ) → getD (now seen) v 0 < mark) ⌝ }
+    ensures { λ r. ⌜ EachOnce (now (entries .entry)) mark (now (seen .exit)) r ⌝ }
 {
-    let d = seen.len();
-    array::fill(seen, d, 0);
-    array::count_values(seen, d, entries);
-    let once = array::all_below(seen, 2);
-    array::fill(seen, d, 0); // also where an entry stands twice
-    once
+    let mut i = 0;
+    while i < entries.len() {
+        let v = entries[i] as usize;
+        if seen[v] == mark {
+            return false;
+        }
+        seen[v] = mark;
+        i += 1;
+    }
+    true
 }

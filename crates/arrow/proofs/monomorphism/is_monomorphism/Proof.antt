@@ -80,10 +80,8 @@ both-injective-requires : tie.Need-both-injective-requires
 both-injective-requires c κs =
     let l = c .before .before in
     let a = accepted l in
-    let k = length-take-le (words l) (ws₀ (s l)) (c .before .if1 .left) in (
-      (λ u m. omega (arith, a .nodeMap .below u m, need l, k), λ u m. omega (arith, a .opMap .below u m, need l, k)),
-      (omega (arith, a .nodeMap .fewEntries), omega (arith, a .opMap .fewEntries)),
-    )
+    let k = length-take-le (words l) (ws₀ (s l)) (c .before .if1 .left) in
+    (λ u m. omega (arith, a .nodeMap .below u m, need l, k), λ u m. omega (arith, a .opMap .below u m, need l, k))
 
 -- src/monomorphism.rt:27:1
 returns-2 : tie.Need-returns-2

@@ -64,7 +64,7 @@ enum-told-2 c = search needs
 
 -- src/convex.rt:88:23
 decide-natural-requires : tie.Need-decide-natural-requires
-decide-natural-requires c κs = let e = c .before in let o = s (m e) in (o .pre .0 .1, ((λ v k. omega (arith, o .pre .0 .2 .nodeMap .below v k, natural e .wTarget), o .pre .0 .2 .nodeMap .fewEntries, ops e), o .pre .1))
+decide-natural-requires c κs = let e = c .before in let o = s (m e) in (o .pre .0 .1, ((λ v k. omega (arith, o .pre .0 .2 .nodeMap .below v k, natural e .wTarget), ops e), o .pre .1))
 
 -- src/convex.rt:42:1
 same-length : tie.Need-same-length
