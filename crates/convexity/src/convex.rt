@@ -31,7 +31,10 @@ fn decide_natural(
     requires { ⌜ length (now ws) ≡ workspaceNeed (drawing (now dw) (now dx) (now dsl) (now dsv) (now dtl) (now dtv)) ⌝ }
     ensures { λ r. ⌜ Decides (GroupConvex (drawing (now (dw .entry)) (now (dx .entry)) (now (dsl .entry)) (now (dsv .entry)) (now (dtl .entry)) (now (dtv .entry))) (now (fw .entry)) (now (fx .entry))) (workspaceNeed (drawing (now (dw .entry)) (now (dx .entry)) (now (dsl .entry)) (now (dsv .entry)) (now (dtl .entry)) (now (dtv .entry)))) (now (ws .exit)) r ⌝ }
 {
-    if !arrow::monomorphism::both_injective(fw, fx, ws) {
+    let items = dw.len() + dx.len();
+    if !arrow::monomorphism::both_injective(fw, fx, &mut ws[..items]) {
+        let all = ws.len();
+        array::fill(ws, all, 0);
         return false;
     }
     !has_road(ws, dw, dx, dsl, dsv, dtl, dtv, fw, fx)

@@ -3,30 +3,28 @@
 // The workspace holds the table in its first b words, and behind it, for k items: degrees, a queue and depths.
 // A root that leads to every item once starts the walk, so each degree begins with one for the root.
 ghost use mathlib.Core.List.{[]};
-ghost use Prim.Native.Nat.{_+_, _-_, _<_};
-ghost use lib.ListN.{length, take};
+ghost use mathlib.Core.Path.{_≡_};
+ghost use Prim.Native.Nat.{_+_, _<_};
+ghost use lib.ListN.{take};
+ghost use lib.Dec.{eqb};
 ghost use Rattle.rules.specs.Inner.Table.{Table, Walked, successors};
-ghost use Rattle.rules.specs.Inner.Walk.{Laid, Standing, Releasable, Released, degreesOf, depthsOf};
-ghost use Rattle.rules.specs.Inner.Words.{upFrom};
+ghost use Rattle.rules.specs.Inner.Walk.{Laid, Standing, degreesOf, depthsOf};
+ghost use Rattle.rules.specs.Inner.Words.{upFrom, bit};
+ghost use Rattle.graph.specs.Release.{stored};
 
-// Follows one listing of the item s, by an item of depth far - 1. Where it is the last that is left,
-// s joins the queue. Gives the queue's length.
-fn release(ws: &mut [u32], k: usize, b: usize, tail: usize, s: u32, far: u32) -> usize
+// One listing of the item s is followed: it gets a new degree and depth. It is put behind the queue, which gets longer by it
+// only where no listing is left: a store costs less than a jump that cannot be foreseen. Gives the queue's length.
+fn release(ws: &mut [u32], k: usize, b: usize, tail: usize, s: u32, left: u32, depth: u32) -> usize
     requires { ⌜ Laid k b (now ws) ⌝ }
-    requires { ⌜ Releasable k b tail s (now ws) ⌝ }
-    ensures { λ r. ⌜ Released k b tail s far (now (ws .entry)) r (now (ws .exit)) ⌝ }
+    requires { ⌜ (s < k) × (tail < k) ⌝ }
+    ensures { λ r. ⌜ (now (ws .exit) ≡ stored k b tail s left depth (now (ws .entry))) × (r ≡ tail + bit (eqb left 0)) ⌝ }
 {
     let degree_at = b + s as usize;
     let depth_at = b + k + k + s as usize;
-    let left = ws[degree_at] - 1;
-    let depth = array::larger(ws[depth_at], far);
     ws[degree_at] = left;
     ws[depth_at] = depth;
-    if left == 0 {
-        ws[b + k + tail] = s;
-        return tail + 1;
-    }
-    tail
+    ws[b + k + tail] = s;
+    if left == 0 { tail + 1 } else { tail }
 }
 
 // Before the walk: a degree is one for the root and one for each listing, and every depth is 0.
@@ -52,13 +50,16 @@ fn seed(ws: &mut [u32], k: usize, b: usize) -> usize
     let mut tail = 0;
     let mut i = 0;
     while i < k {
-        tail = release(ws, k, b, tail, i as u32, 0);
+        let left = ws[b + i] - 1;
+        let depth = array::larger(ws[b + k + k + i], 0);
+        tail = release(ws, k, b, tail, i as u32, left, depth);
         i += 1;
     }
     tail
 }
 
-// The item at the queue's head is worked off: each of its listings is followed.
+// The item at the queue's head is worked off: each of its listings is followed. Of the item `last`, which was followed last,
+// the degree and the depth are known.
 fn follow(ws: &mut [u32], k: usize, b: usize, head: usize, tail: usize) -> usize
     requires { ⌜ Laid k b (now ws) ⌝ }
     requires { ⌜ Table k (take b (now ws)) ⌝ }
@@ -70,9 +71,19 @@ fn follow(ws: &mut [u32], k: usize, b: usize, head: usize, tail: usize) -> usize
     let end = ws[i + 1] as usize;
     let mut p = ws[i] as usize;
     let mut len = tail;
+    let mut last = i;
+    let mut left = ws[b + i];
+    let mut depth = ws[b + k + k + i];
     while p < end {
         let s = ws[k + 1 + p];
-        len = release(ws, k, b, len, s, far);
+        let at = s as usize;
+        left = array::known(ws, b + at, b + last, left) - 1;
+        depth = array::larger(
+            array::known(ws, b + k + k + at, b + k + k + last, depth),
+            far,
+        );
+        len = release(ws, k, b, len, s, left, depth);
+        last = at;
         p += 1;
     }
     len
