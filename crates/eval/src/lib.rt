@@ -58,8 +58,8 @@ fn prepare(ws: &mut [u32], w: &[u32], x: &[u32], sl: &[u32], sv: &[u32], tl: &[u
     let targets = sources + x.len();
     let base = targets + x.len();
     let room = base + w.len();
-    memory::starts(&mut ws[sources..targets], sl);
-    memory::starts(&mut ws[targets..base], tl);
+    indexed_coproduct::starts(&mut ws[sources..targets], sl);
+    indexed_coproduct::starts(&mut ws[targets..base], tl);
     array::fill(&mut ws[base..room], w.len(), 0);
 }
 

@@ -258,7 +258,7 @@ pub extern "C" fn tiwelzam_layered_operations(
     done(layers::layer::layered_operations(w, x, sl, sv, tl, tv, operations, offsets, marks, ws))
 }
 
-// Whether two maps from the first drawing into the second are natural: 5 to 10 if not.
+// Whether two maps from the first drawing into the second are natural: 5 to 10 if not, 1 to 4 for lists that are no drawings or maps.
 #[no_mangle]
 pub extern "C" fn tiwelzam_validate(
     cw: &[u32],

@@ -1,9 +1,9 @@
 // Memory: words that are read and written at listed places, in a slice of their own or within a workspace.
 ghost use mathlib.Core.List.{map};
 ghost use mathlib.Core.Path.{_≡_};
-ghost use Prim.Native.Nat.{ℕ, _+_, _≤_, _<_, _^_, min};
-ghost use lib.ListN.{length, take, drop, getD};
-ghost use Rattle.rules.specs.Lists.{_∈_, at, has, sum, seg};
+ghost use Prim.Native.Nat.{ℕ, _+_, _≤_, _<_, min};
+ghost use lib.ListN.{length, drop};
+ghost use Rattle.rules.specs.Lists.{_∈_, at, has, seg};
 ghost use Rattle.rules.specs.Evaluation.{storeAll};
 ghost use Rattle.rules.specs.Inner.Words.{back};
 
@@ -19,20 +19,6 @@ pub fn contains(list: &[u32], a: u32) -> bool
         i += 1;
     }
     false
-}
-
-// Where each of some lists begins, if they stand one behind the other: the sum of the lengths before it.
-pub fn starts(t: &mut [u32], lens: &[u32])
-    requires { ⌜ (length (now t) ≡ length (now lens)) × (sum (now lens) < 2 ^ 32) ⌝ }
-    ensures { λ _. ⌜ ((e : ℕ) → e < length (now (lens .entry)) → getD (now (t .exit)) e 0 ≡ sum (take e (now (lens .entry)))) ⌝ }
-{
-    let mut total: u32 = 0;
-    let mut e = 0;
-    while e < lens.len() {
-        t[e] = total;
-        total += lens[e];
-        e += 1;
-    }
 }
 
 // How many numbers the shorter of two lists has.

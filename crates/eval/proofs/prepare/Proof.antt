@@ -8,7 +8,7 @@ use Rattle.eval.proofs.prepare.Tie as tie
 use Rattle.eval.proofs.prepare.Reads as reads
 use Rattle.eval.proofs.prepare.Lts as lts
 use Rattle.array.proofs.fill.Reads as fill-reads
-use Rattle.memory.proofs.starts.Reads as starts-reads
+use Rattle.indexed_coproduct.proofs.starts.Reads as starts-reads
 
 module _ (s : tie.Start) where
   abbrev d : Drawing
@@ -84,7 +84,7 @@ returns c = let s = c .before .before .before .before .before .before .before .b
     (4 * m + 1 + m - (4 * m + 1)) (4 * m + 1 + m) (4 * m + 1 + m + m - (4 * m + 1 + m)) (4 * m + 1 + m + m) (4 * m + 1 + m + m + nodeCount (d s) - (4 * m + 1 + m + m))
     (c .before .before .before .before .before .before .before .before .before .before .starts .last .0) (c .before .before .before .before .before .before .starts2 .last .0) (c .before .before .fill .last .0)
     (omega arith) (omega arith) (omega arith) (omega arith) (omega arith) (c .before .before .before .before .before .before .before .before .before .before .starts .kept .0) (c .before .before .before .before .before .before .starts2 .kept .0)
-    (c .before .before .before .before .before .before .before .before .before .before .starts .ensures) (c .before .before .before .before .before .before .starts2 .ensures) (c .before .before .fill .ensures)
+    (c .before .before .before .before .before .before .before .before .before .before .starts .ensures .each) (c .before .before .before .before .before .before .starts2 .ensures .each) (c .before .before .fill .ensures)
 
 pub prepare-spec : {M : Type 1} → statement M
 prepare-spec =

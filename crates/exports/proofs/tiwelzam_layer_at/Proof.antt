@@ -47,47 +47,36 @@ module _ (c : tie.Then1) where
   low : i o < length (ops o)
   low = ltb-true (i o) (length (ops o)) ((both (sound (ops o) (offs o)) (ltb (i o) (length (ops o))) holds) .1)
 
--- src/lib.rt:311:8
 offsets-sound-requires : tie.Need-offsets-sound-requires
 offsets-sound-requires c κs = search needs
 
--- src/lib.rt:312:18
 mul-start : tie.Need-mul-start
 mul-start c = omega (arith, low c, facts c .long)
 
--- src/lib.rt:312:18
 shared-slice-read-start : tie.Need-shared-slice-read-start
 shared-slice-read-start c = omega (arith, low (c .before), facts (c .before) .long)
 
--- src/lib.rt:313:27
 add-length : tie.Need-add-length
 add-length c = omega (arith, low (c .before))
 
--- src/lib.rt:313:19
 mul-length : tie.Need-mul-length
 mul-length c = omega (arith, low (c .before), facts (c .before) .long)
 
--- src/lib.rt:313:19
 shared-slice-read-length : tie.Need-shared-slice-read-length
 shared-slice-read-length c = omega (arith, low (c .before .before), facts (c .before .before) .long)
 
--- src/lib.rt:313:36
 mul-length-2 : tie.Need-mul-length-2
 mul-length-2 c = omega (arith, low (c .before .before), facts (c .before .before) .long)
 
--- src/lib.rt:313:36
 shared-slice-read-length-2 : tie.Need-shared-slice-read-length-2
 shared-slice-read-length-2 c = omega (arith, low (c .before .before .before), facts (c .before .before .before) .long)
 
--- src/lib.rt:313:19
 sub-length : tie.Need-sub-length
 sub-length c = part-starts (facts (c .before .before .before)) (i (o (c .before .before .before))) (low (c .before .before .before))
 
--- src/lib.rt:301:1
 returns : tie.Need-returns
 returns c = let k = o (c .before .before .before) in face-there (ops k) (offs k) (i k) (holds (c .before .before .before))
 
--- src/lib.rt:301:1
 returns-2 : tie.Need-returns-2
 returns-2 c = let k = c .before in face-none (ops k) (offs k) (i k) (sym (same k) ∙ c .if1 .left)
 

@@ -6,15 +6,12 @@ use Rattle.exports.proofs.tiwelzam_offsets_sound.Reads as reads
 use Rattle.exports.proofs.tiwelzam_offsets_sound.Lts as lts
 use Rattle.layers.proofs.lookup.offsets_sound.Reads as offsets-sound-reads
 
--- src/lib.rt:292:8
 offsets-sound-requires : tie.Need-offsets-sound-requires
 offsets-sound-requires c κs = search needs
 
--- src/lib.rt:288:1
 returns : tie.Need-returns
 returns c = record { answer = c .before .offsets-sound .result; promise = c .before .offsets-sound .ensures; number = refl; told = rw (c .if1 .taken) }
 
--- src/lib.rt:288:1
 returns-2 : tie.Need-returns-2
 returns-2 c = record { answer = c .before .offsets-sound .result; promise = c .before .offsets-sound .ensures; number = refl; told = rw (c .if1 .left) }
 

@@ -9,11 +9,9 @@ use Rattle.finite_function.proofs.carries.Reads as reads
 use Rattle.finite_function.proofs.carries.Lts as lts
 use Rattle.array.proofs.same_through.Reads as same-through-reads
 
--- src/lib.rt:15:5
 same-through-requires : tie.Need-same-through-requires
 same-through-requires c κs = search needs
 
--- src/lib.rt:11:1
 returns : tie.Need-returns
 returns c =
     let s = c .before .before .before .before in

@@ -25,11 +25,9 @@ module _ (c : tie.After-fill) where
   abbrev zeros : List ℕ
   zeros = c .fill .last .0
 
--- src/lib.rt:16:5
 fill-requires : tie.Need-fill-requires
 fill-requires c κs = search needs
 
--- src/lib.rt:17:5
 count-values-requires : tie.Need-count-values-requires
 count-values-requires c κs =
     let f = c .before .before .before in (
@@ -37,19 +35,15 @@ count-values-requires c κs =
       λ v h. omega (arith, s f .pre .1, cleared-at (seen f) (zeros f) (f .fill .ensures) v),
     )
 
--- src/lib.rt:18:9
 all-below-requires : tie.Need-all-below-requires
 all-below-requires c κs = search needs
 
--- src/lib.rt:19:5
 fill-requires-2 : tie.Need-fill-requires-2
 fill-requires-2 c κs = search needs
 
--- src/lib.rt:10:1
 same-length : tie.Need-same-length
 same-length c = search needs
 
--- src/lib.rt:10:1
 returns : tie.Need-returns
 returns c =
     let n = c .before .before .before .before .before .before .before .before in

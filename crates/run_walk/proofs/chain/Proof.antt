@@ -8,55 +8,42 @@ use Rattle.run_walk.proofs.chain.Lts as lts
 use Rattle.run_walk.proofs.count_up.Reads as count-up-reads
 use Rattle.run_walk.proofs.show.Reads as show-reads
 
--- src/main.rt:240:5
 array-write-sl : tie.Need-array-write-sl
 array-write-sl c = search needs
 
--- src/main.rt:243:14
 slice-aggregate-count-up : tie.Need-slice-aggregate-count-up
 slice-aggregate-count-up c = search needs
 
--- src/main.rt:243:5
 count-up-requires : tie.Need-count-up-requires
 count-up-requires c κs = search needs
 
--- src/main.rt:244:9
 slice-aggregate-all : tie.Need-slice-aggregate-all
 slice-aggregate-all c = search needs
 
--- src/main.rt:246:9
 slice-aggregate-show : tie.Need-slice-aggregate-show
 slice-aggregate-show c = search needs
 
--- src/main.rt:247:9
 slice-aggregate-show-2 : tie.Need-slice-aggregate-show-2
 slice-aggregate-show-2 c = search needs
 
--- src/main.rt:248:9
 slice-aggregate-show-3 : tie.Need-slice-aggregate-show-3
 slice-aggregate-show-3 c = search needs
 
--- src/main.rt:249:9
 slice-aggregate-show-4 : tie.Need-slice-aggregate-show-4
 slice-aggregate-show-4 c = search needs
 
--- src/main.rt:250:9
 slice-aggregate-show-5 : tie.Need-slice-aggregate-show-5
 slice-aggregate-show-5 c = simp length-take (omega arith)
 
--- src/main.rt:251:9
 slice-aggregate-show-6 : tie.Need-slice-aggregate-show-6
 slice-aggregate-show-6 c = search needs
 
--- src/main.rt:245:5
 show-requires : tie.Need-show-requires
 show-requires c κs = search needs
 
--- src/main.rt:237:1
 same-length : tie.Need-same-length
 same-length c = search needs
 
--- src/main.rt:237:1
 returns : tie.Need-returns
 returns c = search needs
 

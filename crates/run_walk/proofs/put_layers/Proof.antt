@@ -18,87 +18,66 @@ Inv-loop operations offsets i₀ t5 t6 t7 i = i ≤ length operations
 abbrev μ-loop : tie.MeasureT-loop
 μ-loop operations offsets i₀ t5 t6 t7 i = length operations - i
 
--- src/main.rt:82:22
 slice-aggregate-write-all : tie.Need-slice-aggregate-write-all Inv-loop μ-loop
 slice-aggregate-write-all c = search needs
 
--- src/main.rt:82:5
 write-all-requires : tie.Need-write-all-requires Inv-loop μ-loop
 write-all-requires c κs = search needs
 
--- src/main.rt:83:5
 put-list-requires : tie.Need-put-list-requires Inv-loop μ-loop
 put-list-requires c κs = search needs
 
--- src/main.rt:85:5
 loop-holds : tie.Need-loop-holds Inv-loop μ-loop
 loop-holds c = search needs
 
--- src/main.rt:86:12
 shown-requires : tie.Need-shown-requires Inv-loop μ-loop
 shown-requires c κs = search needs
 
--- src/main.rt:87:30
 slice-aggregate-write-all-2 : tie.Need-slice-aggregate-write-all-2 Inv-loop μ-loop
 slice-aggregate-write-all-2 c = search needs
 
--- src/main.rt:87:13
 write-all-requires-2 : tie.Need-write-all-requires-2 Inv-loop μ-loop
 write-all-requires-2 c κs = search needs
 
--- src/main.rt:88:22
 layer-at-requires : tie.Need-layer-at-requires Inv-loop μ-loop
 layer-at-requires c κs = search needs
 
--- src/main.rt:88:13
 put-list-requires-2 : tie.Need-put-list-requires-2 Inv-loop μ-loop
 put-list-requires-2 c κs = search needs
 
--- src/main.rt:90:9
 add-i : tie.Need-add-i Inv-loop μ-loop
 add-i c = search needs
 
--- src/main.rt:85:5
 loop-less : tie.Need-loop-less Inv-loop μ-loop
 loop-less c = search needs
 
--- src/main.rt:85:5
 loop-again : tie.Need-loop-again Inv-loop μ-loop
 loop-again c = search needs
 
--- src/main.rt:92:22
 slice-aggregate-write-all-3 : tie.Need-slice-aggregate-write-all-3 Inv-loop μ-loop
 slice-aggregate-write-all-3 c = search needs
 
--- src/main.rt:92:5
 write-all-requires-3 : tie.Need-write-all-requires-3 Inv-loop μ-loop
 write-all-requires-3 c κs = search needs
 
--- src/main.rt:93:14
 layer-at-requires-2 : tie.Need-layer-at-requires-2 Inv-loop μ-loop
 layer-at-requires-2 c κs = search needs
 
--- src/main.rt:93:5
 put-list-requires-3 : tie.Need-put-list-requires-3 Inv-loop μ-loop
 put-list-requires-3 c κs = search needs
 
--- src/main.rt:94:22
 slice-aggregate-write-all-4 : tie.Need-slice-aggregate-write-all-4 Inv-loop μ-loop
 slice-aggregate-write-all-4 c = search needs
 
--- src/main.rt:94:5
 write-all-requires-4 : tie.Need-write-all-requires-4 Inv-loop μ-loop
 write-all-requires-4 c κs = search needs
 
--- src/main.rt:95:13
 offsets-sound-requires : tie.Need-offsets-sound-requires Inv-loop μ-loop
 offsets-sound-requires c κs = search needs
 
--- src/main.rt:95:5
 put-yes-requires : tie.Need-put-yes-requires Inv-loop μ-loop
 put-yes-requires c κs = search needs
 
--- src/main.rt:81:1
 returns : tie.Need-returns Inv-loop μ-loop
 returns c = search needs
 

@@ -7,35 +7,27 @@ use Rattle.run_walk.proofs.room.Reads as reads
 use Rattle.run_walk.proofs.room.Lts as lts
 use Rattle.run_walk.proofs.show.Reads as show-reads
 
--- src/main.rt:356:9
 slice-aggregate-one : tie.Need-slice-aggregate-one
 slice-aggregate-one c = search needs
 
--- src/main.rt:357:9
 slice-aggregate-e : tie.Need-slice-aggregate-e
 slice-aggregate-e c = search needs
 
--- src/main.rt:359:47
 slice-relend-prefix-show : tie.Need-slice-relend-prefix-show
 slice-relend-prefix-show c = search needs
 
--- src/main.rt:359:47
 slice-aggregate-show : tie.Need-slice-aggregate-show
 slice-aggregate-show c = simp length-take (omega arith)
 
--- src/main.rt:359:9
 show-requires : tie.Need-show-requires
 show-requires c κs = search needs
 
--- src/main.rt:354:1
 same-length : tie.Need-same-length
 same-length c = search needs
 
--- src/main.rt:354:1
 returns : tie.Need-returns
 returns c = search needs
 
--- src/main.rt:354:1
 returns-2 : tie.Need-returns-2
 returns-2 c = search needs
 

@@ -9,75 +9,57 @@ use Rattle.layers.proofs.layer.layered_operations.Reads as layered-operations-r
 use Rattle.run_walk.proofs.put_layers.Reads as put-layers-reads
 use Rattle.run_walk.proofs.put_refused.Reads as put-refused-reads
 
--- src/main.rt:135:9
 returns : tie.Need-returns
 returns c = search needs
 
--- src/main.rt:147:9
 slice-aggregate-layered-operations : tie.Need-slice-aggregate-layered-operations
 slice-aggregate-layered-operations c = search needs
 
--- src/main.rt:148:9
 slice-aggregate-layered-operations-2 : tie.Need-slice-aggregate-layered-operations-2
 slice-aggregate-layered-operations-2 c = search needs
 
--- src/main.rt:149:9
 slice-aggregate-layered-operations-3 : tie.Need-slice-aggregate-layered-operations-3
 slice-aggregate-layered-operations-3 c = search needs
 
--- src/main.rt:140:11
 layered-operations-requires : tie.Need-layered-operations-requires
 layered-operations-requires c κs = search needs
 
--- src/main.rt:152:22
 enum-known-why : tie.Need-enum-known-why
 enum-known-why c = search needs
 
--- src/main.rt:152:30
 put-refused-requires : tie.Need-put-refused-requires
 put-refused-requires c κs = search needs
 
--- src/main.rt:153:34
 enum-told : tie.Need-enum-told
 enum-told c = search needs
 
--- src/main.rt:153:34
 array-share-prefix-ops : tie.Need-array-share-prefix-ops
 array-share-prefix-ops c = search needs
 
--- src/main.rt:153:34
 slice-aggregate-put-layers : tie.Need-slice-aggregate-put-layers
 slice-aggregate-put-layers c = simp length-take (omega arith)
 
--- src/main.rt:153:56
 add-offsets : tie.Need-add-offsets
 add-offsets c = search needs
 
--- src/main.rt:153:45
 array-share-prefix-offsets : tie.Need-array-share-prefix-offsets
 array-share-prefix-offsets c = search needs
 
--- src/main.rt:153:45
 slice-aggregate-put-layers-2 : tie.Need-slice-aggregate-put-layers-2
 slice-aggregate-put-layers-2 c = simp length-take (omega arith)
 
--- src/main.rt:153:23
 put-layers-requires : tie.Need-put-layers-requires
 put-layers-requires c κs = search needs
 
--- src/main.rt:124:1
 same-length : tie.Need-same-length
 same-length c = search needs
 
--- src/main.rt:124:1
 returns-2 : tie.Need-returns-2
 returns-2 c = search needs
 
--- src/main.rt:124:1
 same-length-2 : tie.Need-same-length-2
 same-length-2 c = search needs
 
--- src/main.rt:124:1
 returns-3 : tie.Need-returns-3
 returns-3 c = search needs
 

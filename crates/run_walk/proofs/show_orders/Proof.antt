@@ -10,87 +10,66 @@ use Rattle.layers.proofs.layer.layer.Reads as layer-reads
 use Rattle.run_walk.proofs.put_list.Reads as put-list-reads
 use Rattle.run_walk.proofs.put_refused.Reads as put-refused-reads
 
--- src/main.rt:109:9
 returns : tie.Need-returns
 returns c = search needs
 
--- src/main.rt:113:54
 slice-aggregate-layer : tie.Need-slice-aggregate-layer
 slice-aggregate-layer c = search needs
 
--- src/main.rt:113:67
 slice-aggregate-layer-2 : tie.Need-slice-aggregate-layer-2
 slice-aggregate-layer-2 c = search needs
 
--- src/main.rt:113:11
 layer-requires : tie.Need-layer-requires
 layer-requires c κs = search needs
 
--- src/main.rt:114:22
 enum-known-why : tie.Need-enum-known-why
 enum-known-why c = search needs
 
--- src/main.rt:114:30
 put-refused-requires : tie.Need-put-refused-requires
 put-refused-requires c κs = search needs
 
--- src/main.rt:116:30
 enum-told : tie.Need-enum-told
 enum-told c = search needs
 
--- src/main.rt:116:30
 slice-aggregate-write-all : tie.Need-slice-aggregate-write-all
 slice-aggregate-write-all c = search needs
 
--- src/main.rt:116:13
 write-all-requires : tie.Need-write-all-requires
 write-all-requires c κs = search needs
 
--- src/main.rt:117:22
 array-share-prefix-orders : tie.Need-array-share-prefix-orders
 array-share-prefix-orders c = search needs
 
--- src/main.rt:117:22
 slice-aggregate-put-list : tie.Need-slice-aggregate-put-list
 slice-aggregate-put-list c = simp length-take (omega arith)
 
--- src/main.rt:117:13
 put-list-requires : tie.Need-put-list-requires
 put-list-requires c κs = search needs
 
--- src/main.rt:118:30
 slice-aggregate-write-all-2 : tie.Need-slice-aggregate-write-all-2
 slice-aggregate-write-all-2 c = search needs
 
--- src/main.rt:118:13
 write-all-requires-2 : tie.Need-write-all-requires-2
 write-all-requires-2 c κs = search needs
 
--- src/main.rt:119:22
 array-share-prefix-marks : tie.Need-array-share-prefix-marks
 array-share-prefix-marks c = search needs
 
--- src/main.rt:119:22
 slice-aggregate-put-list-2 : tie.Need-slice-aggregate-put-list-2
 slice-aggregate-put-list-2 c = simp length-take (omega arith)
 
--- src/main.rt:119:13
 put-list-requires-2 : tie.Need-put-list-requires-2
 put-list-requires-2 c κs = search needs
 
--- src/main.rt:98:1
 same-length : tie.Need-same-length
 same-length c = search needs
 
--- src/main.rt:98:1
 returns-2 : tie.Need-returns-2
 returns-2 c = search needs
 
--- src/main.rt:98:1
 same-length-2 : tie.Need-same-length-2
 same-length-2 c = search needs
 
--- src/main.rt:98:1
 returns-3 : tie.Need-returns-3
 returns-3 c = search needs
 

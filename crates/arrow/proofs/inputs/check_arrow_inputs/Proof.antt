@@ -8,28 +8,22 @@ use Rattle.arrow.proofs.inputs.check_arrow_lists.Reads as check-arrow-l
 use Rattle.hypergraph.proofs.check.counts_within.Reads as counts-within-reads
 use Rattle.hypergraph.proofs.check.maps_within.Reads as maps-within-reads
 
--- src/inputs.rt:68:8
 counts-within-requires : tie.Need-counts-within-requires
 counts-within-requires c κs = search needs
 
--- src/inputs.rt:69:11
 counts-within-requires-2 : tie.Need-counts-within-requires-2
 counts-within-requires-2 c κs = search needs
 
--- src/inputs.rt:70:11
 maps-within-requires : tie.Need-maps-within-requires
 maps-within-requires c κs = search needs
 
--- src/inputs.rt:72:9
 check-arrow-lists-requires : tie.Need-check-arrow-lists-requires
 check-arrow-lists-requires c κs = search needs
 
--- src/inputs.rt:48:1
 returns : tie.Need-returns
 unfolding arrowInputsRefusal arrowListsRefusal
 returns c = rw (← c .before .before .maps-within .ensures, ← c .before .before .before .counts-within2 .ensures, ← c .before .before .before .before .counts-within .ensures, c .before .if1 .taken) (c .check-arrow-lists .ensures)
 
--- src/inputs.rt:48:1
 returns-2 : tie.Need-returns-2
 unfolding arrowInputsRefusal
 returns-2 c = rw (← c .before .maps-within .ensures, ← c .before .before .counts-within2 .ensures, ← c .before .before .before .counts-within .ensures, c .if1 .left)

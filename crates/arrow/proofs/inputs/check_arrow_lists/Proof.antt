@@ -45,41 +45,32 @@ module _ (c : tie.After-entries-stand) where
       let l = c .before .before .before .before .before .before in
       entries-tested (c₀ (s l)) (d₀ (s l)) (f₀ (s l)) v (source-fine l (cc)) (target-fine (c .before .before .before) (cc)) (sym q ∙ c .entries-stand .ensures)
 
--- src/inputs.rt:32:11
 check-lists-requires : tie.Need-check-lists-requires
 check-lists-requires c κs = search needs
 
--- src/inputs.rt:33:22
 enum-known-why : tie.Need-enum-known-why
 enum-known-why c = search needs
 
--- src/inputs.rt:34:29
 enum-told : tie.Need-enum-told
 enum-told c = search needs
 
--- src/inputs.rt:34:29
 check-lists-requires-2 : tie.Need-check-lists-requires-2
 check-lists-requires-2 c κs = search needs
 
--- src/inputs.rt:35:26
 enum-known-why-2 : tie.Need-enum-known-why-2
 enum-known-why-2 c = search needs
 
--- src/inputs.rt:37:20
 enum-told-2 : tie.Need-enum-told-2
 enum-told-2 c = search needs
 
--- src/inputs.rt:37:20
 entries-stand-requires : tie.Need-entries-stand-requires
 entries-stand-requires c κs = search needs
 
--- src/inputs.rt:12:1
 returns : tie.Need-returns
 returns c =
     let l = c .before .before .before in
     source-faulty (c₀ (s l)) (d₀ (s l)) (f₀ (s l)) (c .before .why .given .0 .0) (faulty-number (l .check-lists .result) (c .before .why .given .0 .0) (l .check-lists .ensures) (cc))
 
--- src/inputs.rt:12:1
 returns-2 : tie.Need-returns-2
 returns-2 c =
     let k = c .before .before .before in
@@ -87,11 +78,9 @@ returns-2 c =
     target-faulty (c₀ (s l)) (d₀ (s l)) (f₀ (s l)) (c .before .why2 .given .0 .0) (source-fine l (cc))
     (faulty-number (k .check-lists2 .result) (c .before .why2 .given .0 .0) (k .check-lists2 .ensures) (cc))
 
--- src/inputs.rt:12:1
 returns-3 : tie.Need-returns-3
 returns-3 c = tested (c .before) true (c .if1 .taken)
 
--- src/inputs.rt:12:1
 returns-4 : tie.Need-returns-4
 returns-4 c = tested (c .before) false (c .if1 .left)
 

@@ -24,31 +24,25 @@ module _ (c : tie.After-is-injective) where
   abbrev seen : List ℕ
   seen = s .args .seen .now
 
--- src/monomorphism.rt:20:9
 is-injective-requires : tie.Need-is-injective-requires
 is-injective-requires c κs = search needs
 
--- src/monomorphism.rt:21:9
 same-length : tie.Need-same-length
 same-length c = search needs
 
--- src/monomorphism.rt:21:9
 returns : tie.Need-returns
 returns c =
     let i = c .before .before .before in
     both-first (w i) (x i) (seen i) (i .is-injective .last .1 .0) (i .is-injective .result) (not-true (i .is-injective .result) (c .if1 .taken)) (i .is-injective .ensures)
 
--- src/monomorphism.rt:23:5
 is-injective-requires-2 : tie.Need-is-injective-requires-2
 is-injective-requires-2 c κs =
     let i = c .before .before .before .before in
     (λ u m. omega (arith, s i .pre .0 .1 u m, i .is-injective .kept .1 .0), s i .pre .1 .1)
 
--- src/monomorphism.rt:15:1
 same-length-2 : tie.Need-same-length-2
 same-length-2 c = search needs
 
--- src/monomorphism.rt:15:1
 returns-2 : tie.Need-returns-2
 returns-2 c =
     let i = c .before .before .before .before .before .before .before in

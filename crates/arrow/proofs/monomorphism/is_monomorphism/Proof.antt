@@ -43,39 +43,30 @@ module _ (c : tie.After-larger) where
   accepted : AcceptedMaps (f₀ s)
   accepted = (maps-iff (f₀ s)) .0 fine
 
--- src/monomorphism.rt:30:11
 check-maps-requires : tie.Need-check-maps-requires
 check-maps-requires c κs = search needs
 
--- src/monomorphism.rt:31:22
 enum-known-why : tie.Need-enum-known-why
 enum-known-why c = search needs
 
--- src/monomorphism.rt:33:25
 enum-told : tie.Need-enum-told
 enum-told c = search needs
 
--- src/monomorphism.rt:33:25
 larger-requires : tie.Need-larger-requires
 larger-requires c κs = search needs
 
--- src/monomorphism.rt:33:25
 cast-words : tie.Need-cast-words
 cast-words c = search needs
 
--- src/monomorphism.rt:35:17
 returns : tie.Need-returns
 returns c = let l = c .before in mono-short (f₀ (s l)) (ws₀ (s l)) (words l) (need l) (fine l) (c .if1 .taken)
 
--- src/monomorphism.rt:37:39
 slice-relend-prefix-both-injective : tie.Need-slice-relend-prefix-both-injective
 slice-relend-prefix-both-injective c = search needs
 
--- src/monomorphism.rt:37:39
 slice-aggregate-both-injective : tie.Need-slice-aggregate-both-injective
 slice-aggregate-both-injective c = simp length-take (omega arith)
 
--- src/monomorphism.rt:37:16
 both-injective-requires : tie.Need-both-injective-requires
 both-injective-requires c κs =
     let l = c .before .before in
@@ -85,7 +76,6 @@ both-injective-requires c κs =
       (omega (arith, a .nodeMap .fewEntries), omega (arith, a .opMap .fewEntries)),
     )
 
--- src/monomorphism.rt:27:1
 returns-2 : tie.Need-returns-2
 returns-2 c =
     let m = c .before .before .before in
@@ -93,11 +83,9 @@ returns-2 c =
     let why = c .before .why .given .0 .0 in
     mono-faulty (f₀ s) (ws₀ s) why (faulty-number (m .check-maps .result) why (m .check-maps .ensures .refusal) (cc))
 
--- src/monomorphism.rt:27:1
 same-length : tie.Need-same-length
 same-length c = search needs
 
--- src/monomorphism.rt:27:1
 returns-3 : tie.Need-returns-3
 returns-3 c =
     let b = c .before .before .before in
@@ -105,11 +93,9 @@ returns-3 c =
     let l = e .before in
     rw (c .if2 .taken) at (mono-decided (f₀ (s l)) (ws₀ (s l)) (words l) (need l) (fine l) (b .both-injective .last .1 .1 .0) (b .both-injective .result) (e .if1 .left) (b .both-injective .ensures))
 
--- src/monomorphism.rt:27:1
 same-length-2 : tie.Need-same-length-2
 same-length-2 c = search needs
 
--- src/monomorphism.rt:27:1
 returns-4 : tie.Need-returns-4
 returns-4 c =
     let b = c .before .before .before in

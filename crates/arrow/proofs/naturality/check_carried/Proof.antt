@@ -51,47 +51,38 @@ module _ (c : tie.Else3) where
   s-carried : listsS (c₀ s₃) (d₀ s₃) (f₀ s₃) ≡ true
   s-carried = sym (c .before .lists-carried .ensures) ∙ not-false (c .before .lists-carried .result) (c .if3 .left)
 
--- src/naturality.rt:100:9
 carries-requires : tie.Need-carries-requires
 carries-requires c κs = let s = c .before .before .before .before .before .before .before .before .before .before .before .before .before .before in nodes-below (c₀ s) (d₀ s) (f₀ s) (s .pre .1) (s .pre .0 .2)
 
--- src/naturality.rt:101:9
 returns : tie.Need-returns
 returns c = let s = c .before .before .before .before .before .before .before .before .before .before .before .before .before .before .before .before in refused-labels-w (c₀ s) (d₀ s) (f₀ s) (sym (c .before .carries .ensures) ∙ not-true (c .before .carries .result) (c .if1 .taken))
 
--- src/naturality.rt:103:9
 carries-requires-2 : tie.Need-carries-requires-2
 carries-requires-2 c κs = let s = c .before .before .before .before .before .before .before .before .before .before .before .before .before .before .before .before in ops-below (c₀ s) (d₀ s) (f₀ s) (s .pre .1) (s .pre .0 .2)
 
--- src/naturality.rt:104:9
 returns-2 : tie.Need-returns-2
 returns-2 c =
     let e = c .before .before in
     refused-labels-x (c₀ (s e)) (d₀ (s e)) (f₀ (s e)) (w-carried e) (sym (c .before .carries2 .ensures) ∙ not-true (c .before .carries2 .result) (c .if2 .taken))
 
--- src/naturality.rt:106:9
 lists-carried-requires : tie.Need-lists-carried-requires
 lists-carried-requires c κs = sources-fit (s₂ c)
 
--- src/naturality.rt:107:9
 returns-3 : tie.Need-returns-3
 returns-3 c =
     let e = c .before .before in
     let s = s₂ e in
     refused-s (c₀ s) (d₀ s) (f₀ s) (s .pre .1) (w-carried (e .before .before)) (x-carried e) (sym (c .before .lists-carried .ensures) ∙ not-true (c .before .lists-carried .result) (c .if3 .taken))
 
--- src/naturality.rt:109:9
 lists-carried-requires-2 : tie.Need-lists-carried-requires-2
 lists-carried-requires-2 c κs = targets-fit (s₃ c)
 
--- src/naturality.rt:110:9
 returns-4 : tie.Need-returns-4
 returns-4 c =
     let e = c .before .before in
     let s = s₃ e in
     refused-t (c₀ s) (d₀ s) (f₀ s) (s .pre .1) (w-carried (e .before .before .before .before)) (x-carried (e .before .before)) (s-carried e) (sym (c .before .lists-carried2 .ensures) ∙ not-true (c .before .lists-carried2 .result) (c .if4 .taken))
 
--- src/naturality.rt:78:1
 returns-5 : tie.Need-returns-5
 returns-5 c =
     let e = c .before .before in

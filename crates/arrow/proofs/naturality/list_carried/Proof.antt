@@ -60,99 +60,75 @@ module _ (s : tie.Start) where
   last-in : first + getD dl image 0 ≤ length dv
   last-in = part-ends dl dv image first begins (fits .total) image-low
 
--- src/naturality.rt:33:22
 mul-end : tie.Need-mul-end
 mul-end c = search needs
 
--- src/naturality.rt:33:22
 shared-slice-read-end : tie.Need-shared-slice-read-end
 shared-slice-read-end c = search needs
 
--- src/naturality.rt:33:22
 cast-end : tie.Need-cast-end
 cast-end c = let s = c .before .before .before .before .before .before .before .before in omega (arith, end-in s, fits s .lists .room)
 
--- src/naturality.rt:33:15
 add-end : tie.Need-add-end
 add-end c = let s = c .before .before .before .before .before .before .before .before in omega (arith, end-in s, fits s .lists .room)
 
--- src/naturality.rt:34:17
 mul-image : tie.Need-mul-image
 mul-image c = search needs
 
--- src/naturality.rt:34:17
 shared-slice-read-image : tie.Need-shared-slice-read-image
 shared-slice-read-image c = search needs
 
--- src/naturality.rt:34:17
 cast-image : tie.Need-cast-image
 cast-image c = let s = c .before .before .before .before .before .before .before .before .before in omega (arith, image-low s, fits s .few)
 
--- src/naturality.rt:35:17
 mul-first : tie.Need-mul-first
 mul-first c = let s = c .before .before .before .before .before .before .before .before .before in omega (arith, image-low s, fits s .few)
 
--- src/naturality.rt:35:17
 shared-slice-read-first : tie.Need-shared-slice-read-first
 shared-slice-read-first c = let s = c .before .before .before .before .before .before .before .before .before .before in omega (arith, image-low s, s .pre .1 .0 .long)
 
--- src/naturality.rt:35:17
 cast-first : tie.Need-cast-first
 cast-first c = let s = c .before .before .before .before .before .before .before .before .before .before in omega (arith, last-in s, fits s .room)
 
--- src/naturality.rt:36:24
 mul-last : tie.Need-mul-last
 mul-last c = let s = c .before .before .before .before .before .before .before .before .before .before in omega (arith, image-low s, fits s .few)
 
--- src/naturality.rt:36:24
 shared-slice-read-last : tie.Need-shared-slice-read-last
 shared-slice-read-last c = let s = c .before .before .before .before .before .before .before .before .before .before .before in omega (arith, image-low s)
 
--- src/naturality.rt:36:24
 cast-last : tie.Need-cast-last
 cast-last c = let s = c .before .before .before .before .before .before .before .before .before .before .before in omega (arith, last-in s, fits s .room)
 
--- src/naturality.rt:36:16
 add-last : tie.Need-add-last
 add-last c = let s = c .before .before .before .before .before .before .before .before .before .before .before in omega (arith, last-in s, fits s .room)
 
--- src/naturality.rt:37:29
 mul-same-through : tie.Need-mul-same-through
 mul-same-through c = let s = c .before .before .before .before .before .before .before .before .before .before .before in omega (arith, end-in s, fits s .lists .room)
 
--- src/naturality.rt:37:29
 sub-same-through : tie.Need-sub-same-through
 sub-same-through c = search needs
 
--- src/naturality.rt:37:29
 part-same-through-start : tie.Need-part-same-through-start
 part-same-through-start c = search needs
 
--- src/naturality.rt:37:29
 part-same-through-end : tie.Need-part-same-through-end
 part-same-through-end c = let s = c .before .before .before .before .before .before .before .before .before .before .before in omega (arith, end-in s, fits s .lists .room)
 
--- src/naturality.rt:37:45
 mul-same-through-2 : tie.Need-mul-same-through-2
 mul-same-through-2 c = let s = c .before .before .before .before .before .before .before .before .before .before .before .before in omega (arith, last-in s, fits s .room)
 
--- src/naturality.rt:37:45
 sub-same-through-2 : tie.Need-sub-same-through-2
 sub-same-through-2 c = search needs
 
--- src/naturality.rt:37:45
 part-same-through-start-2 : tie.Need-part-same-through-start-2
 part-same-through-start-2 c = search needs
 
--- src/naturality.rt:37:45
 part-same-through-end-2 : tie.Need-part-same-through-end-2
 part-same-through-end-2 c = let s = c .before .before .before .before .before .before .before .before .before .before .before .before in omega (arith, last-in s, fits s .room)
 
--- src/naturality.rt:37:5
 same-through-requires : tie.Need-same-through-requires
 same-through-requires c κs = let s = c .before .before .before .before .before .before .before .before .before .before .before .before .before in λ u m. fits s .lists .below u (∈-part (cl s) (cv s) (e s) (rw (part-is (cl s) (cv s) (e s) (from s) (s .pre .1 .1 .1)) at m))
 
--- src/naturality.rt:17:1
 returns : tie.Need-returns
 returns c = let s = c .before .before .before .before .before .before .before .before .before .before .before .before .before .before in rw (part-is (dl s) (dv s) (image s) (first s) (begins s), part-is (cl s) (cv s) (e s) (from s) (s .pre .1 .1 .1)) at (c .same-through .ensures)
 

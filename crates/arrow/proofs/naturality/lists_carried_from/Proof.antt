@@ -48,45 +48,35 @@ module _ (c : tie.In-loop Inv-loop μ-loop) where
   end-in : from + getD cl e 0 ≤ length cv
   end-in = part-ends cl cv e from (c .before .loop .inv .1) (s .pre .0 .lists .total) low
 
--- src/naturality.rt:56:5
 loop-holds : tie.Need-loop-holds Inv-loop μ-loop
 loop-holds c = (omega arith, refl, λ i h. absurd (omega arith))
 
--- src/naturality.rt:57:13
 list-carried-requires : tie.Need-list-carried-requires Inv-loop μ-loop
 list-carried-requires c κs = (s c .pre .0, (s c .pre .1, (c .loop-test .taken, c .before .loop .inv .1)))
 
--- src/naturality.rt:58:13
 returns : tie.Need-returns Inv-loop μ-loop
 returns c =
     let l = c .before .before in
     sym (not-all (carried l) (length (s l .args .fx .now)) (e l) (l .loop-test .taken) (sym (c .before .list-carried .ensures) ∙ not-true (c .before .list-carried .result) (c .if1 .taken)))
 
--- src/naturality.rt:60:17
 mul-from : tie.Need-mul-from Inv-loop μ-loop
 mul-from c = search needs
 
--- src/naturality.rt:60:17
 shared-slice-read-from : tie.Need-shared-slice-read-from Inv-loop μ-loop
 shared-slice-read-from c = omega (arith, low (c .before .before .before))
 
--- src/naturality.rt:60:17
 cast-from : tie.Need-cast-from Inv-loop μ-loop
 cast-from c = let l = c .before .before .before in omega (arith, end-in l, s l .pre .0 .lists .room)
 
--- src/naturality.rt:60:9
 add-from : tie.Need-add-from Inv-loop μ-loop
 add-from c = let l = c .before .before .before in omega (arith, end-in l, s l .pre .0 .lists .room)
 
--- src/naturality.rt:61:9
 add-e : tie.Need-add-e Inv-loop μ-loop
 add-e c = search needs
 
--- src/naturality.rt:56:5
 loop-less : tie.Need-loop-less Inv-loop μ-loop
 loop-less c = search needs
 
--- src/naturality.rt:56:5
 loop-again : tie.Need-loop-again Inv-loop μ-loop
 loop-again c =
     let k = c .before .before in
@@ -96,7 +86,6 @@ loop-again c =
       below-more _ _ (l .before .loop .inv .2) (sym (k .list-carried .ensures) ∙ not-false (k .list-carried .result) (c .before .if1 .left)),
     )
 
--- src/naturality.rt:41:1
 returns-2 : tie.Need-returns-2 Inv-loop μ-loop
 returns-2 c =
     let s = c .before .before .before .before .before .before .before .before .before in

@@ -37,29 +37,23 @@ module _ (c : tie.Else2) where
   x-matches : typeX (c₀ s₂) (d₀ s₂) (f₀ s₂) ≡ true
   x-matches = sym (c .before .type-matches2 .ensures) ∙ not-false (c .before .type-matches2 .result) (c .if2 .left)
 
--- src/naturality.rt:144:9
 type-matches-requires : tie.Need-type-matches-requires
 type-matches-requires c κs = search needs
 
--- src/naturality.rt:145:9
 returns : tie.Need-returns
 returns c = let s = c .before .before .before .before .before .before .before .before .before .before .before .before .before .before .before .before in refused-w (c₀ s) (d₀ s) (f₀ s) (sym (c .before .type-matches .ensures) ∙ not-true (c .before .type-matches .result) (c .if1 .taken))
 
--- src/naturality.rt:147:9
 type-matches-requires-2 : tie.Need-type-matches-requires-2
 type-matches-requires-2 c κs = search needs
 
--- src/naturality.rt:148:9
 returns-2 : tie.Need-returns-2
 returns-2 c =
     let e = c .before .before in
     refused-x (c₀ (s e)) (d₀ (s e)) (f₀ (s e)) (w-matches e) (sym (c .before .type-matches2 .ensures) ∙ not-true (c .before .type-matches2 .result) (c .if2 .taken))
 
--- src/naturality.rt:150:5
 check-carried-requires : tie.Need-check-carried-requires
 check-carried-requires c κs = let s = s₂ c in (s .pre, types-sized (c₀ s) (d₀ s) (f₀ s) (w-matches (c .before .before)) (x-matches c))
 
--- src/naturality.rt:123:1
 returns-3 : tie.Need-returns-3
 returns-3 c =
     let e = c .before in

@@ -30,30 +30,24 @@ module _ (c : tie.After-enum-told) where
   fine : arrowInputsRefusal (c₀ s) (d₀ s) (f₀ s) ≡ 0
   fine = fine-none (c .before .before .check-arrow-inputs .result) (c .before .before .check-arrow-inputs .ensures) (cc)
 
--- src/validate.rt:29:11
 check-arrow-inputs-requires : tie.Need-check-arrow-inputs-requires
 check-arrow-inputs-requires c κs = search needs
 
--- src/validate.rt:47:22
 enum-known-why : tie.Need-enum-known-why
 enum-known-why c = search needs
 
--- src/validate.rt:48:23
 enum-told : tie.Need-enum-told
 enum-told c = search needs
 
--- src/validate.rt:48:23
 naturality-requires : tie.Need-naturality-requires
 naturality-requires c κs = inputs-accepted (c₀ (s c)) (d₀ (s c)) (f₀ (s c)) (fine c)
 
--- src/validate.rt:9:1
 returns : tie.Need-returns
 returns c =
     let i = c .before .before .before in
     let s = i .before .before .before .before .before .before .before .before .before .before .before .before .before .before .before in
     record { refusal = sym (validate-early (c₀ s) (d₀ s) (f₀ s) (number (c .before .why .given .0 .0)) (faulty-number (i .check-arrow-inputs .result) (c .before .why .given .0 .0) (i .check-arrow-inputs .ensures) (c .before .why .given .1)) (number-some (c .before .why .given .0 .0))) }
 
--- src/validate.rt:9:1
 returns-2 : tie.Need-returns-2
 returns-2 c = let e = c .before in record { refusal = c .naturality .ensures ∙ sym (validate-behind (c₀ (s e)) (d₀ (s e)) (f₀ (s e)) (fine e)) }
 

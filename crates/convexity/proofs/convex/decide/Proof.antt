@@ -46,39 +46,30 @@ module _ (c : tie.After-enum-told2) where
   ops : SelectedOps (d₀ (s m)) (s m .args .fx .now)
   ops = record { few = s m .pre .0 .2 .opMap .fewEntries; below = λ e k. omega (arith, s m .pre .0 .2 .opMap .below e k, natural .xTarget) }
 
--- src/convex.rt:65:11
 naturality-requires : tie.Need-naturality-requires
 naturality-requires c κs = search needs
 
--- src/convex.rt:84:17
 enum-told : tie.Need-enum-told
 enum-told c = search needs
 
--- src/convex.rt:85:13
 fill-requires : tie.Need-fill-requires
 fill-requires c κs = search needs
 
--- src/convex.rt:88:38
 enum-told-2 : tie.Need-enum-told-2
 enum-told-2 c = search needs
 
--- src/convex.rt:88:23
 decide-natural-requires : tie.Need-decide-natural-requires
 decide-natural-requires c κs = let e = c .before in let o = s (m e) in (o .pre .0 .1, ((λ v k. omega (arith, o .pre .0 .2 .nodeMap .below v k, natural e .wTarget), o .pre .0 .2 .nodeMap .fewEntries, ops e), o .pre .1))
 
--- src/convex.rt:42:1
 same-length : tie.Need-same-length
 same-length c = search needs
 
--- src/convex.rt:42:1
 returns : tie.Need-returns
 returns c = let n = c .before .before .before .before .before .before in let why = c .before .before .before .before .enum-told .given .0 .0 in unnatural-no (c₀ (s n)) (d₀ (s n)) (f₀ (s n)) (number why) (faulty-number (n .naturality .result) why (n .naturality .ensures) (c .before .before .before .before .enum-told .given .1)) (number-some why) (s n .args .ws .now) (c .before .before .fill .last .0) (s n .pre .1) (c .before .before .fill .ensures)
 
--- src/convex.rt:42:1
 same-length-2 : tie.Need-same-length-2
 same-length-2 c = search needs
 
--- src/convex.rt:42:1
 returns-2 : tie.Need-returns-2
 returns-2 c = let e = c .before .before .before .before in natural-group (c₀ (s (m e))) (d₀ (s (m e))) (f₀ (s (m e))) (fine e) (c .before .before .decide-natural .last .0) (c .before .before .decide-natural .result) (c .before .before .decide-natural .ensures)
 

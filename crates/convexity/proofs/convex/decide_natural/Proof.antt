@@ -46,34 +46,27 @@ module _ (c : tie.After-both-injective) where
       length-append (c .both-injective .last .1 .1 .0) (drop items (s .args .ws .now))
       ∙ omega (arith, c .both-injective .kept .1 .1 .0, length-take-le items (s .args .ws .now) items-in, length-drop items (s .args .ws .now), items-in, s .pre .1 .1)
 
--- src/convex.rt:35:17
 add-items : tie.Need-add-items
 add-items c = search needs
 
--- src/convex.rt:36:53
 slice-relend-prefix-both-injective : tie.Need-slice-relend-prefix-both-injective
 slice-relend-prefix-both-injective c = let s = c .before .before .before .before .before .before .before .before .before in omega (arith, s .pre .1 .1)
 
--- src/convex.rt:36:53
 slice-aggregate-both-injective : tie.Need-slice-aggregate-both-injective
 slice-aggregate-both-injective c = let s = c .before .before .before .before .before .before .before .before .before .before in simp length-take (omega (arith, s .pre .1 .1))
 
--- src/convex.rt:36:9
 both-injective-requires : tie.Need-both-injective-requires
 both-injective-requires c κs =
     let s = c .before .before .before .before .before .before .before .before .before .before in
     let k = length-take-le (length (s .args .dw .now) + length (s .args .dx .now)) (s .args .ws .now) (omega (arith, s .pre .1 .1)) in
     ((λ u m. omega (arith, s .pre .1 .0 .0 u m, k), λ u m. omega (arith, s .pre .1 .0 .2 .below u m, k)), (omega (arith, s .pre .1 .0 .1), omega (arith, s .pre .1 .0 .2 .few)))
 
--- src/convex.rt:38:9
 fill-requires : tie.Need-fill-requires
 fill-requires c κs = search needs
 
--- src/convex.rt:39:9
 same-length : tie.Need-same-length
 same-length c = search needs
 
--- src/convex.rt:39:9
 returns : tie.Need-returns
 returns c =
     let b = c .before .before .before .before .before .before .before in
@@ -81,15 +74,12 @@ returns c =
     group-repeats (d b) (w b) (x b) (c .before .before .fill .last .0) (workspaceNeed (d b)) (b .both-injective .result) refl (not-true (b .both-injective .result) (c .before .before .before .before .if1 .taken))
     (record { yes = b .both-injective .ensures .yes; no = b .both-injective .ensures .no; clear = rw (long b) at z })
 
--- src/convex.rt:41:6
 has-road-requires : tie.Need-has-road-requires
 has-road-requires c κs = let b = c .before .before .before .before in (s b .pre .0, ((s b .pre .1 .0 .0, s b .pre .1 .0 .2), long b))
 
--- src/convex.rt:19:1
 same-length-2 : tie.Need-same-length-2
 same-length-2 c = search needs
 
--- src/convex.rt:19:1
 returns-2 : tie.Need-returns-2
 returns-2 c =
     let b = c .before .before .before .before .before .before .before in

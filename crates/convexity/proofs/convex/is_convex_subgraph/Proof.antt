@@ -43,75 +43,57 @@ module _ (c : tie.Else1) where
   room : workspaceNeed (d₀ (s (c .before))) ≤ length (s (c .before) .args .ws .now)
   room = c .if1 .left
 
--- src/convex.rt:115:11
 check-arrow-inputs-requires : tie.Need-check-arrow-inputs-requires
 check-arrow-inputs-requires c κs = search needs
 
--- src/convex.rt:133:22
 enum-known-why : tie.Need-enum-known-why
 enum-known-why c = search needs
 
--- src/convex.rt:135:30
 enum-told : tie.Need-enum-told
 enum-told c = search needs
 
--- src/convex.rt:135:30
 add-words : tie.Need-add-words
 add-words c = let a = accepted c in omega (arith, a .1 .fewNodes, a .1 .fewOps, a .1 .sources .room, a .1 .targets .room)
 
--- src/convex.rt:135:25
 mul-words : tie.Need-mul-words
 mul-words c = let a = accepted c in omega (arith, a .1 .fewNodes, a .1 .fewOps, a .1 .sources .room, a .1 .targets .room)
 
--- src/convex.rt:135:58
 add-words-2 : tie.Need-add-words-2
 add-words-2 c = let a = accepted c in omega (arith, a .1 .fewNodes, a .1 .fewOps, a .1 .sources .room, a .1 .targets .room)
 
--- src/convex.rt:135:53
 mul-words-2 : tie.Need-mul-words-2
 mul-words-2 c = let a = accepted c in omega (arith, a .1 .fewNodes, a .1 .fewOps, a .1 .sources .room, a .1 .targets .room)
 
--- src/convex.rt:135:25
 add-words-3 : tie.Need-add-words-3
 add-words-3 c = let a = accepted c in omega (arith, a .1 .fewNodes, a .1 .fewOps, a .1 .sources .room, a .1 .targets .room)
 
--- src/convex.rt:135:25
 add-words-4 : tie.Need-add-words-4
 add-words-4 c = let a = accepted c in omega (arith, a .1 .fewNodes, a .1 .fewOps, a .1 .sources .room, a .1 .targets .room)
 
--- src/convex.rt:137:17
 returns : tie.Need-returns
 returns c = let e = c .before in convex-no-room (c₀ (s e)) (d₀ (s e)) (f₀ (s e)) (s e .args .ws .now) (fine e) (c .if1 .taken)
 
--- src/convex.rt:140:17
 slice-relend-prefix-decide : tie.Need-slice-relend-prefix-decide
 slice-relend-prefix-decide c = search needs
 
--- src/convex.rt:140:17
 slice-aggregate-decide : tie.Need-slice-aggregate-decide
 slice-aggregate-decide c = simp length-take (omega arith)
 
--- src/convex.rt:139:16
 decide-requires : tie.Need-decide-requires
 decide-requires c κs = let e = c .before .before in (accepted e, length-take-le (workspaceNeed (d₀ (s e))) (s e .args .ws .now) (room (c .before)))
 
--- src/convex.rt:94:1
 returns-2 : tie.Need-returns-2
 returns-2 c = let n = c .before .before .before in let o = n .before .before .before .before .before .before .before .before .before .before .before .before .before .before .before .before in convex-faulty (c₀ o) (d₀ o) (f₀ o) (o .args .ws .now) (c .before .why .given .0 .0) (faulty-number (n .check-arrow-inputs .result) (c .before .why .given .0 .0) (n .check-arrow-inputs .ensures) (c .before .why .given .1))
 
--- src/convex.rt:94:1
 same-length : tie.Need-same-length
 same-length c = search needs
 
--- src/convex.rt:94:1
 returns-3 : tie.Need-returns-3
 returns-3 c = let l = c .before .before .before .before .before in let e = l .before in rw (c .if2 .taken) at (convex-decided (c₀ (s e)) (d₀ (s e)) (f₀ (s e)) (s e .args .ws .now) (c .before .before .before .decide .last .0) (c .before .before .before .decide .result) (fine e) (room l) (c .before .before .before .decide .ensures))
 
--- src/convex.rt:94:1
 same-length-2 : tie.Need-same-length-2
 same-length-2 c = search needs
 
--- src/convex.rt:94:1
 returns-4 : tie.Need-returns-4
 returns-4 c = let l = c .before .before .before .before .before in let e = l .before in rw (c .if2 .left) at (convex-decided (c₀ (s e)) (d₀ (s e)) (f₀ (s e)) (s e .args .ws .now) (c .before .before .before .decide .last .0) (c .before .before .before .decide .result) (fine e) (room l) (c .before .before .before .decide .ensures))
 

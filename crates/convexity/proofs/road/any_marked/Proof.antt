@@ -26,47 +26,36 @@ module _ (c : tie.In-loop Inv-loop μ-loop) where
   inside : v < length (s .args .marks .now)
   inside = s .pre v (getD-∈ (s .args .list .now) (c .before .loop .i) (c .loop-test .taken))
 
--- src/road.rt:19:5
 loop-holds : tie.Need-loop-holds Inv-loop μ-loop
 loop-holds c = λ v m. absurd (List·Memᴰ·not-nil m)
 
--- src/road.rt:20:17
 mul-v : tie.Need-mul-v Inv-loop μ-loop
 mul-v c = search needs
 
--- src/road.rt:20:17
 shared-slice-read-v : tie.Need-shared-slice-read-v Inv-loop μ-loop
 shared-slice-read-v c = search needs
 
--- src/road.rt:20:17
 cast-v : tie.Need-cast-v Inv-loop μ-loop
 cast-v c = omega (arith, c .shared-slice-known .given (c .before .before .loop .i))
 
--- src/road.rt:21:16
 mul-if1 : tie.Need-mul-if1 Inv-loop μ-loop
 mul-if1 c = omega (arith, inside (c .before))
 
--- src/road.rt:21:16
 shared-slice-read-if1 : tie.Need-shared-slice-read-if1 Inv-loop μ-loop
 shared-slice-read-if1 c = omega (arith, inside (c .before .before))
 
--- src/road.rt:22:13
 returns : tie.Need-returns Inv-loop μ-loop
 returns c = let l = c .before .before .before in found-one (s l .args .marks .now) (s l .args .list .now) (l .before .loop .i) (l .loop-test .taken) (c .if1 .taken)
 
--- src/road.rt:24:9
 add-i : tie.Need-add-i Inv-loop μ-loop
 add-i c = search needs
 
--- src/road.rt:19:5
 loop-less : tie.Need-loop-less Inv-loop μ-loop
 loop-less c = search needs
 
--- src/road.rt:19:5
 loop-again : tie.Need-loop-again Inv-loop μ-loop
 loop-again c = let l = c .before .before .before in none-more (s l .args .marks .now) (s l .args .list .now) (l .before .loop .i) (l .loop-test .taken) (l .before .loop .inv) (omega (arith, c .if1 .left))
 
--- src/road.rt:14:1
 returns-2 : tie.Need-returns-2 Inv-loop μ-loop
 returns-2 c = let s = c .before .before in found-none (s .args .marks .now) (s .args .list .now) (c .before .loop .i) (c .loop-test .left) (c .before .loop .inv)
 

@@ -42,79 +42,60 @@ module _ (c : tie.After-walk) where
   long₂ : length (c .walk .last .0) ≡ workspaceNeed (d (s t))
   long₂ = c .walk .kept .0 ∙ long₁ t
 
--- src/road.rt:47:13
 add-k : tie.Need-add-k
 add-k c = search needs
 
--- src/road.rt:48:13
 add-b : tie.Need-add-b
 add-b c = search needs
 
--- src/road.rt:48:13
 add-b-2 : tie.Need-add-b-2
 add-b-2 c = search needs
 
--- src/road.rt:48:13
 add-b-3 : tie.Need-add-b-3
 add-b-3 c = search needs
 
--- src/road.rt:49:18
 add-c : tie.Need-add-c
 add-c c = search needs
 
--- src/road.rt:49:27
 add-c-2 : tie.Need-add-c-2
 add-c-2 c = search needs
 
--- src/road.rt:49:18
 add-c-3 : tie.Need-add-c-3
 add-c-3 c = search needs
 
--- src/road.rt:49:13
 add-c-4 : tie.Need-add-c-4
 add-c-4 c = search needs
 
--- src/road.rt:50:15
 add-end : tie.Need-add-end
 add-end c = search needs
 
--- src/road.rt:51:5
 tables-requires : tie.Need-tables-requires
 tables-requires c κs = search needs
 
--- src/road.rt:52:5
 walk-requires : tie.Need-walk-requires
 walk-requires c κs = let t = c .before .before .before in (road-laid (s t .pre .0) (t .tables .ensures) (long₁ t), (road-pair (s t .pre .0) (t .tables .ensures), omega arith, s t .pre .1 .0 .0))
 
--- src/road.rt:53:28
 mul-any-marked : tie.Need-mul-any-marked
 mul-any-marked c = search needs
 
--- src/road.rt:53:28
 sub-any-marked : tie.Need-sub-any-marked
 sub-any-marked c = search needs
 
--- src/road.rt:53:28
 part-any-marked-start : tie.Need-part-any-marked-start
 part-any-marked-start c = search needs
 
--- src/road.rt:53:28
 part-any-marked-end : tie.Need-part-any-marked-end
 part-any-marked-end c = search needs
 
--- src/road.rt:53:9
 any-marked-requires : tie.Need-any-marked-requires
 any-marked-requires c κs = let a = c .before .before .before .before in λ v m. omega (arith, s (t a) .pre .1 .0 .0 v m, seg-length (marksFrom (d (s (t a)))) (items (d (s (t a)))) (a .walk .last .0) (omega (arith, long₂ a)))
 
--- src/road.rt:55:5
 fill-requires : tie.Need-fill-requires
 fill-requires c κs = search needs
 
--- src/road.rt:30:1
 same-length : tie.Need-same-length
 same-length c = search needs
 
--- src/road.rt:30:1
 returns : tie.Need-returns
 returns c = let a = c .before .before .before .before .before .before .before .before .before in let p : ℕ = marksFrom (d (s (t a))) + items (d (s (t a))) - marksFrom (d (s (t a))) in road-decided (s (t a) .pre .0) (t a .tables .ensures) (s (t a) .args .fw .now) (s (t a) .pre .1 .0 .0) (a .walk .last .0) (c .before .before .fill .last .0) p (c .before .before .before .before .any-marked .result) (long₂ a) (a .walk .ensures) (omega arith) (c .before .before .before .before .any-marked .ensures) (c .before .before .fill .ensures)
 

@@ -5,39 +5,30 @@ use Rattle.convexity.proofs.tables.keep.Tie as tie
 use Rattle.convexity.proofs.tables.keep.Reads as reads
 use Rattle.convexity.proofs.tables.keep.Lts as lts
 
--- src/tables.rt:19:11
 add-if1 : tie.Need-add-if1
 add-if1 c = search needs
 
--- src/tables.rt:19:8
 mul-if1 : tie.Need-mul-if1
 mul-if1 c = search needs
 
--- src/tables.rt:19:8
 slice-read-if1 : tie.Need-slice-read-if1
 slice-read-if1 c = search needs
 
--- src/tables.rt:20:9
 mul-ws : tie.Need-mul-ws
 mul-ws c = search needs
 
--- src/tables.rt:20:9
 slice-write-ws : tie.Need-slice-write-ws
 slice-write-ws c = search needs
 
--- src/tables.rt:21:16
 add-result : tie.Need-add-result
 add-result c = search needs
 
--- src/tables.rt:21:9
 same-length : tie.Need-same-length
 same-length c = search needs
 
--- src/tables.rt:21:9
 returns : tie.Need-returns
 returns c = let s = c .before .before in kept-one (s .args .flags) (s .args .q) (s .args .item) (s .args .ws .now) (s .pre .0) (s .pre .1) (c .if1 .taken)
 
--- src/tables.rt:15:1
 returns-2 : tie.Need-returns-2
 returns-2 c = let s = c .before .before in passed-one (s .args .flags) (s .args .q) (s .args .item) (s .args .ws .now) (s .pre .0) (s .pre .1) (c .if1 .left)
 

@@ -55,39 +55,30 @@ module _ (c : tie.In-loop Inv-loop μ-loop) where
   flag-in : s .args .flags + getD (c .before .loop .ws) p 0 < length (c .before .loop .ws)
   flag-in = rw item (omega (arith, s .pre .1 (getD (row s) i 0) (getD-∈ (row s) i inside), c .before .loop .inv .2 .long))
 
--- src/tables.rt:34:5
 loop-holds : tie.Need-loop-holds Inv-loop μ-loop
 loop-holds c = let s = c .before in let e : s .args .from - s .args .from ≡ 0 = omega arith in (omega arith, s .pre .0 .0, rw e (kept-none (s .args .flags) (s .args .q) (row s) (s .args .ws .now)))
 
--- src/tables.rt:35:20
 mul-item : tie.Need-mul-item Inv-loop μ-loop
 mul-item c = search needs
 
--- src/tables.rt:35:20
 slice-read-item : tie.Need-slice-read-item Inv-loop μ-loop
 slice-read-item c = let l = c .before in omega (arith, l .loop-test .taken, s l .pre .0 .1, s l .pre .0 .2, s l .pre .0 .3, l .before .loop .inv .2 .long)
 
--- src/tables.rt:36:9
 keep-requires : tie.Need-keep-requires Inv-loop μ-loop
 keep-requires c κs = let l = c .before .before in (room l, flag-in l)
 
--- src/tables.rt:37:9
 add-p : tie.Need-add-p Inv-loop μ-loop
 add-p c = search needs
 
--- src/tables.rt:34:5
 loop-less : tie.Need-loop-less Inv-loop μ-loop
 loop-less c = search needs
 
--- src/tables.rt:34:5
 loop-again : tie.Need-loop-again Inv-loop μ-loop
 loop-again c = let l = c .before .before .before .before .before in let e : p l + 1 - s l .args .from ≡ i l + 1 = omega (arith, l .before .loop .inv .0) in (omega (arith, l .before .loop .inv .0), omega (arith, l .loop-test .taken), rw e (kept-more (row (s l)) (i l) (inside l) (l .before .loop .inv .2) (rw (item l) at (c .before .before .keep .ensures))))
 
--- src/tables.rt:27:1
 same-length : tie.Need-same-length Inv-loop μ-loop
 same-length c = c .before .loop .inv .2 .long
 
--- src/tables.rt:27:1
 returns : tie.Need-returns Inv-loop μ-loop
 returns c = let s = c .before .before .before in rw (take-all (c .before .loop .p - s .args .from) (row s) (omega (arith, row-long s, c .loop-test .left))) at (c .before .loop .inv .2)
 

@@ -22,39 +22,30 @@ module _ (c : tie.After-slice-known2) where
   flagging : Flagging (s .args .n) k (k - s .args .n) (s .args .x .now) (s .args .flags .now) (c .before .before .fill .last .0)
   flagging = record { nodes = s .pre .0 .0; long = refl; low = s .pre .1; p-is = refl; cleared = c .before .before .fill .ensures }
 
--- src/tables.rt:68:13
 sub-m : tie.Need-sub-m
 sub-m c = search needs
 
--- src/tables.rt:69:5
 fill-requires : tie.Need-fill-requires
 fill-requires c κs = search needs
 
--- src/tables.rt:70:25
 mul-count-values : tie.Need-mul-count-values
 mul-count-values c = search needs
 
--- src/tables.rt:70:25
 sub-count-values : tie.Need-sub-count-values
 sub-count-values c = search needs
 
--- src/tables.rt:70:25
 part-count-values-start : tie.Need-part-count-values-start
 part-count-values-start c = search needs
 
--- src/tables.rt:70:25
 part-count-values-end : tie.Need-part-count-values-end
 part-count-values-end c = search needs
 
--- src/tables.rt:70:5
 count-values-requires : tie.Need-count-values-requires
 count-values-requires c κs = let f = c .before in ((λ v m. omega (arith, s f .pre .1 v m), search needs), λ v h. omega (arith, flags-clear (flagging f) v h, s f .pre .0 .1))
 
--- src/tables.rt:62:1
 same-length : tie.Need-same-length
 same-length c = search needs
 
--- src/tables.rt:62:1
 returns : tie.Need-returns
 returns c = let f = c .before .before .before .before in flags-set (flagging f) (c .before .before .count-values .last .0) (c .before .before .count-values .ensures)
 

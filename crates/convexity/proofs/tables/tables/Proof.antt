@@ -55,83 +55,63 @@ module _ (c : tie.After-select) where
   flags-long : length F ≡ p i
   flags-long = c .select .kept .0 ∙ flags-size (tabling i) ∙ omega arith
 
--- src/tables.rt:90:13
 add-k : tie.Need-add-k
 add-k c = search needs
 
--- src/tables.rt:91:13
 add-b : tie.Need-add-b
 add-b c = search needs
 
--- src/tables.rt:91:13
 add-b-2 : tie.Need-add-b-2
 add-b-2 c = search needs
 
--- src/tables.rt:91:13
 add-b-3 : tie.Need-add-b-3
 add-b-3 c = search needs
 
--- src/tables.rt:92:18
 add-c : tie.Need-add-c
 add-c c = search needs
 
--- src/tables.rt:92:27
 add-c-2 : tie.Need-add-c-2
 add-c-2 c = search needs
 
--- src/tables.rt:92:18
 add-c-3 : tie.Need-add-c-3
 add-c-3 c = search needs
 
--- src/tables.rt:92:13
 add-c-4 : tie.Need-add-c-4
 add-c-4 c = search needs
 
--- src/tables.rt:93:15
 add-end : tie.Need-add-end
 add-end c = search needs
 
--- src/tables.rt:94:38
 slice-relend-prefix-incidence : tie.Need-slice-relend-prefix-incidence
 slice-relend-prefix-incidence c = search needs
 
--- src/tables.rt:94:38
 slice-aggregate-incidence : tie.Need-slice-aggregate-incidence
 slice-aggregate-incidence c = simp length-take (omega arith)
 
--- src/tables.rt:94:5
 incidence-requires : tie.Need-incidence-requires
 incidence-requires c κs = let s = c .before .before .before .before .before .before .before .before .before in (s .pre .0, front s)
 
--- src/tables.rt:95:12
 mul-select : tie.Need-mul-select
 mul-select c = search needs
 
--- src/tables.rt:95:12
 sub-select : tie.Need-sub-select
 sub-select c = search needs
 
--- src/tables.rt:95:12
 part-select-start : tie.Need-part-select-start
 part-select-start c = search needs
 
--- src/tables.rt:95:12
 part-select-end : tie.Need-part-select-end
 part-select-end c = search needs
 
--- src/tables.rt:95:5
 select-requires : tie.Need-select-requires
 select-requires c κs = let i = c .before .before .before in ((omega (arith, flags-size (tabling i)), s i .pre .1 .0 .few), λ e m. omega (arith, flags-size (tabling i), s i .pre .1 .0 .below e m))
 
--- src/tables.rt:96:5
 unselected-requires : tie.Need-unselected-requires
 unselected-requires c κs = let f = c .before .before .before in (tabled-laid (tabling (i f)) (F f) (flags-long f), (tabled-table (tabling (i f)) (F f) (flags-long f), tabled-room (tabling (i f)) (F f) (flags-long f)))
 
--- src/tables.rt:74:1
 same-length : tie.Need-same-length
 same-length c = search needs
 
--- src/tables.rt:74:1
 returns : tie.Need-returns
 returns c = let f = c .before .before .before .before .before .before in two-tables (tabling (i f)) (F f) (flags-long f) (f .select .ensures) (c .before .before .unselected .ensures)
 

@@ -75,111 +75,84 @@ module _ (c : tie.After-slice-known4 Inv-loop μ-loop) where
   small : q' ≤ s l .args .c
   small = row-size-fits (laid₀ (s l)) (table₀ (s l)) (roomy (s l)) (l .before .loop .inv) (l .loop-test .taken) (c .before .before .keep-row .ensures)
 
--- src/tables.rt:48:17
 add-first : tie.Need-add-first Inv-loop μ-loop
 add-first c = search needs
 
--- src/tables.rt:48:17
 add-first-2 : tie.Need-add-first-2 Inv-loop μ-loop
 add-first-2 c = search needs
 
--- src/tables.rt:49:5
 mul-ws : tie.Need-mul-ws Inv-loop μ-loop
 mul-ws c = search needs
 
--- src/tables.rt:49:5
 slice-write-ws : tie.Need-slice-write-ws Inv-loop μ-loop
 slice-write-ws c = let s = c .before in omega (arith, s .pre .0 .fits, s .pre .1 .1 .room)
 
--- src/tables.rt:52:5
 loop-holds : tie.Need-loop-holds Inv-loop μ-loop
 loop-holds c = let s = c .before in filtering-first (s .pre .0) (roomy s)
 
--- src/tables.rt:53:20
 add-from : tie.Need-add-from Inv-loop μ-loop
 add-from c = search needs
 
--- src/tables.rt:53:28
 mul-from : tie.Need-mul-from Inv-loop μ-loop
 mul-from c = search needs
 
--- src/tables.rt:53:28
 slice-read-from : tie.Need-slice-read-from Inv-loop μ-loop
 slice-read-from c = let l = c .before in omega (arith, ends l, rises l, long l, roomy (s l) .room, s l .pre .0 .fits, l .loop-test .taken, roomy (s l) .nodes)
 
--- src/tables.rt:53:28
 cast-from : tie.Need-cast-from Inv-loop μ-loop
 cast-from c = let l = c .before in omega (arith, c .slice-known2 .given (v l))
 
--- src/tables.rt:53:20
 add-from-2 : tie.Need-add-from-2 Inv-loop μ-loop
 add-from-2 c = let l = c .before in omega (arith, ends l, rises l, long l, roomy (s l) .room, s l .pre .0 .fits, s l .pre .0 .small)
 
--- src/tables.rt:54:19
 add-end : tie.Need-add-end Inv-loop μ-loop
 add-end c = let l = c .before in omega (arith, l .loop-test .taken)
 
--- src/tables.rt:54:30
 add-end-2 : tie.Need-add-end-2 Inv-loop μ-loop
 add-end-2 c = search needs
 
--- src/tables.rt:54:27
 mul-end : tie.Need-mul-end Inv-loop μ-loop
 mul-end c = search needs
 
--- src/tables.rt:54:27
 slice-read-end : tie.Need-slice-read-end Inv-loop μ-loop
 slice-read-end c = let l = c .before .before in omega (arith, ends l, long l, roomy (s l) .room, s l .pre .0 .fits, l .loop-test .taken, roomy (s l) .nodes)
 
--- src/tables.rt:54:27
 cast-end : tie.Need-cast-end Inv-loop μ-loop
 cast-end c = let l = c .before .before in omega (arith, c .slice-known3 .given (v l + 1))
 
--- src/tables.rt:54:19
 add-end-3 : tie.Need-add-end-3 Inv-loop μ-loop
 add-end-3 c = let l = c .before .before in omega (arith, ends l, roomy (s l) .room, s l .pre .0 .small)
 
--- src/tables.rt:55:9
 keep-row-requires : tie.Need-keep-row-requires Inv-loop μ-loop
 keep-row-requires c κs = let l = c .before .before .before in ((rises l, omega (arith, ends l, l .before .loop .inv .least), room l, omega (arith, long l, s l .pre .0 .fits)), λ j m. row-flags (laid₀ (s l)) (table₀ (s l)) (roomy (s l)) (l .before .loop .inv) (l .loop-test .taken) j m)
 
--- src/tables.rt:56:9
 add-v : tie.Need-add-v Inv-loop μ-loop
 add-v c = search needs
 
--- src/tables.rt:57:22
 sub-ws : tie.Need-sub-ws Inv-loop μ-loop
 sub-ws c = omega (arith, least c)
 
--- src/tables.rt:57:21
 cast-ws : tie.Need-cast-ws Inv-loop μ-loop
 cast-ws c = omega (arith, least c, small c, s (l c) .pre .0 .small)
 
--- src/tables.rt:57:12
 add-ws : tie.Need-add-ws Inv-loop μ-loop
 add-ws c = search needs
 
--- src/tables.rt:57:9
 mul-ws-2 : tie.Need-mul-ws-2 Inv-loop μ-loop
 mul-ws-2 c = search needs
 
--- src/tables.rt:57:9
 slice-write-ws-2 : tie.Need-slice-write-ws-2 Inv-loop μ-loop
 slice-write-ws-2 c = omega (arith, least c, small c, s (l c) .pre .0 .fits, c .before .before .keep-row .kept .0, long (l c), (l c) .loop-test .taken)
 
--- src/tables.rt:52:5
 loop-less : tie.Need-loop-less Inv-loop μ-loop
 loop-less c = search needs
 
--- src/tables.rt:52:5
 loop-again : tie.Need-loop-again Inv-loop μ-loop
 loop-again c = filtering-more (laid₀ (s (l c))) (table₀ (s (l c))) (roomy (s (l c))) (l c .before .loop .inv) (l c .loop-test .taken) (c .before .before .keep-row .ensures)
 
--- src/tables.rt:43:1
 same-length : tie.Need-same-length Inv-loop μ-loop
 same-length c = let s = c .before .before .before in c .before .loop .inv .long ∙ length-set (s .args .ws .now) (s .args .b) 0
 
--- src/tables.rt:43:1
 returns : tie.Need-returns Inv-loop μ-loop
 returns c = let s = c .before .before .before in let e : c .before .loop .v ≡ s .args .n = omega (arith, c .loop-test .left, c .before .loop .inv .within) in filtered-from (s .pre .0) (roomy s) (filtering-last (laid₀ s) (table₀ s) (roomy s) (rw e at (c .before .loop .inv)))
 

@@ -69,55 +69,42 @@ module _ (c : tie.After-leads2 Inv-loop μ-loop) where
   item-low : getD (c .leads2 .result .now) (l .before .loop .p) 0 < s l .args .k
   item-low = rw item (s l .pre .1 .1 .1 (getD (row (s l)) (l .before .loop .p) 0) (getD-∈ (row (s l)) (l .before .loop .p) (inside l)))
 
--- src/walk.rt:93:15
 cast-via : tie.Need-cast-via Inv-loop μ-loop
 cast-via c = search needs
 
--- src/walk.rt:93:15
 add-via : tie.Need-add-via Inv-loop μ-loop
 add-via c = search needs
 
--- src/walk.rt:94:17
 leads-requires : tie.Need-leads-requires Inv-loop μ-loop
 leads-requires c κs = search needs
 
--- src/walk.rt:97:5
 loop-holds : tie.Need-loop-holds Inv-loop μ-loop
 loop-holds c = let s = c .before .before .before in (ap length (c .leads .ensures), followed-none (row s) (s .pre .1 .0 .2))
 
--- src/walk.rt:98:17
 leads-requires-2 : tie.Need-leads-requires-2 Inv-loop μ-loop
 leads-requires-2 c κs = let l = c .before in ((s l .pre .1 .0 .0, omega (arith, laid l .fits)), rw (same l) (s l .pre .1 .1 .0))
 
--- src/walk.rt:98:17
 mul-j : tie.Need-mul-j Inv-loop μ-loop
 mul-j c = search needs
 
--- src/walk.rt:98:17
 shared-slice-read-j : tie.Need-shared-slice-read-j Inv-loop μ-loop
 shared-slice-read-j c = let r = c .before in omega (arith, inside (l r), ap length (read r))
 
--- src/walk.rt:99:9
 reach-requires : tie.Need-reach-requires Inv-loop μ-loop
 reach-requires c κs = let r = c .before .before in (laid (l r), (l r .before .loop .inv .1 .held, item-low r, omega arith))
 
--- src/walk.rt:100:9
 add-p : tie.Need-add-p Inv-loop μ-loop
 add-p c = search needs
 
--- src/walk.rt:97:5
 loop-less : tie.Need-loop-less Inv-loop μ-loop
 loop-less c = search needs
 
--- src/walk.rt:97:5
 loop-again : tie.Need-loop-again Inv-loop μ-loop
 loop-again c = let r = c .before .before .before .before .before in (l r .before .loop .inv .0, followed-more (row (s (l r))) (l r .before .loop .p) (inside (l r)) (l r .before .loop .inv .1) (rw (item r) at (c .before .before .reach .ensures)))
 
--- src/walk.rt:77:1
 same-length : tie.Need-same-length Inv-loop μ-loop
 same-length c = c .before .loop .inv .1 .long
 
--- src/walk.rt:77:1
 returns : tie.Need-returns Inv-loop μ-loop
 returns c = let s = c .before .before .before .before .before in rw (take-all (c .before .loop .p) (row s) (omega (arith, c .loop-test .left, c .before .loop .inv .0))) at (c .before .loop .inv .1)
 

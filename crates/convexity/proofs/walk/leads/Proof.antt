@@ -7,31 +7,24 @@ use Rattle.convexity.proofs.walk.leads.Reads as reads
 use Rattle.convexity.proofs.walk.leads.Lts as lts
 use Rattle.convexity.proofs.walk.leaving.Reads as leaving-reads
 
--- src/walk.rt:58:20
 mul-leaving : tie.Need-mul-leaving
 mul-leaving c = search needs
 
--- src/walk.rt:58:20
 sub-leaving : tie.Need-sub-leaving
 sub-leaving c = search needs
 
--- src/walk.rt:58:20
 part-leaving-start : tie.Need-part-leaving-start
 part-leaving-start c = search needs
 
--- src/walk.rt:58:20
 part-leaving-end : tie.Need-part-leaving-end
 part-leaving-end c = search needs
 
--- src/walk.rt:58:31
 slice-aggregate-leaving : tie.Need-slice-aggregate-leaving
 slice-aggregate-leaving c = simp length-take (omega arith)
 
--- src/walk.rt:58:5
 leaving-requires : tie.Need-leaving-requires
 leaving-requires c κs = search needs
 
--- src/walk.rt:45:1
 returns : tie.Need-returns
 returns c = search needs
 

@@ -7,27 +7,21 @@ use Rattle.convexity.proofs.walk.leaving.Reads as reads
 use Rattle.convexity.proofs.walk.leaving.Lts as lts
 use Rattle.convexity.proofs.walk.row.Reads as row-reads
 
--- src/walk.rt:39:26
 enum-told : tie.Need-enum-told
 enum-told c = search needs
 
--- src/walk.rt:39:26
 row-requires : tie.Need-row-requires
 row-requires c κs = let s = c .before .before .before .before in let e : s .args .layer ≡ Inside = cc in rw e at (s .pre)
 
--- src/walk.rt:40:27
 enum-told-2 : tie.Need-enum-told-2
 enum-told-2 c = search needs
 
--- src/walk.rt:40:27
 row-requires-2 : tie.Need-row-requires-2
 row-requires-2 c κs = let s = c .before .before .before .before in let e : s .args .layer ≡ Outside = cc in rw e at (s .pre)
 
--- src/walk.rt:27:1
 returns : tie.Need-returns
 returns c = let s = c .before .before .before .before .before in let e : s .args .layer ≡ Inside = cc in rw e (c .row .ensures)
 
--- src/walk.rt:27:1
 returns-2 : tie.Need-returns-2
 returns-2 c = let s = c .before .before .before .before .before in let e : s .args .layer ≡ Outside = cc in rw e (c .row2 .ensures)
 

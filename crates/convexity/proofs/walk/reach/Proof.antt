@@ -7,55 +7,42 @@ use Rattle.convexity.proofs.walk.reach.Tie as tie
 use Rattle.convexity.proofs.walk.reach.Reads as reads
 use Rattle.convexity.proofs.walk.reach.Lts as lts
 
--- src/walk.rt:67:16
 add-mark : tie.Need-add-mark
 add-mark c = search needs
 
--- src/walk.rt:68:8
 mul-if1 : tie.Need-mul-if1
 mul-if1 c = search needs
 
--- src/walk.rt:68:8
 slice-read-if1 : tie.Need-slice-read-if1
 slice-read-if1 c = search needs
 
--- src/walk.rt:69:9
 mul-ws : tie.Need-mul-ws
 mul-ws c = search needs
 
--- src/walk.rt:69:9
 slice-write-ws : tie.Need-slice-write-ws
 slice-write-ws c = search needs
 
--- src/walk.rt:70:12
 add-ws : tie.Need-add-ws
 add-ws c = search needs
 
--- src/walk.rt:70:12
 add-ws-2 : tie.Need-add-ws-2
 add-ws-2 c = search needs
 
--- src/walk.rt:70:9
 mul-ws-2 : tie.Need-mul-ws-2
 mul-ws-2 c = search needs
 
--- src/walk.rt:70:9
 slice-write-ws-2 : tie.Need-slice-write-ws-2
 slice-write-ws-2 c = let s = c .before .before in simp length-set (omega (arith, s .pre .0 .fits, reach-room (s .pre .0) (s .pre .1 .0) (s .args .j) (s .pre .1 .1) (c .if1 .taken)))
 
--- src/walk.rt:71:16
 add-result : tie.Need-add-result
 add-result c = search needs
 
--- src/walk.rt:71:9
 same-length : tie.Need-same-length
 same-length c = search needs
 
--- src/walk.rt:71:9
 returns : tie.Need-returns
 returns c = let s = c .before .before in reach-new (s .pre .0) (s .pre .1 .0) (s .args .j) (s .pre .1 .1) (c .if1 .taken) (s .args .via) (s .pre .1 .2)
 
--- src/walk.rt:62:1
 returns-2 : tie.Need-returns-2
 returns-2 c = let s = c .before .before in reach-old (s .pre .0) (s .pre .1 .0) (s .args .j) (s .pre .1 .1) (omega (arith, c .if1 .left))
 

@@ -36,43 +36,33 @@ module _ (c : tie.In-loop Inv-loop μ-loop) where
   low : v < s .args .n
   low = s .pre .1 .0 .2 v (getD-∈ (s .args .w .now) (c .before .loop .q) (c .loop-test .taken))
 
--- src/walk.rt:114:5
 loop-holds : tie.Need-loop-holds Inv-loop μ-loop
 loop-holds c = let s = c .before .before in (omega arith, refl, s .pre .1 .1)
 
--- src/walk.rt:115:17
 mul-v : tie.Need-mul-v Inv-loop μ-loop
 mul-v c = search needs
 
--- src/walk.rt:115:17
 shared-slice-read-v : tie.Need-shared-slice-read-v Inv-loop μ-loop
 shared-slice-read-v c = search needs
 
--- src/walk.rt:115:17
 cast-v : tie.Need-cast-v Inv-loop μ-loop
 cast-v c = omega (arith, c .shared-slice-known2 .given (c .before .before .loop .q))
 
--- src/walk.rt:116:9
 follow-requires : tie.Need-follow-requires Inv-loop μ-loop
 follow-requires c κs = let l = c .before .before in (laid l, ((pair l .order, omega (arith, low l, s l .pre .1 .0 .1), l .before .loop .inv .2 .held), (pair l .rows (v l) (low l), λ j m. pair l .items (v l) j m)))
 
--- src/walk.rt:117:9
 add-q : tie.Need-add-q Inv-loop μ-loop
 add-q c = search needs
 
--- src/walk.rt:114:5
 loop-less : tie.Need-loop-less Inv-loop μ-loop
 loop-less c = search needs
 
--- src/walk.rt:114:5
 loop-again : tie.Need-loop-again Inv-loop μ-loop
 loop-again c = let l = c .before .before .before .before .before in (omega (arith, l .loop-test .taken), c .before .before .follow .ensures .long ∙ l .before .loop .inv .1, searching-seed (pair l .order) (laid l) (l .before .loop .inv .2) (l .loop-test .taken) (c .before .before .follow .ensures))
 
--- src/walk.rt:106:1
 same-length : tie.Need-same-length Inv-loop μ-loop
 same-length c = search needs
 
--- src/walk.rt:106:1
 returns : tie.Need-returns Inv-loop μ-loop
 returns c = let e : c .before .loop .q ≡ length (c .before .before .before .before .args .w .now) = omega (arith, c .loop-test .left, c .before .loop .inv .0) in rw e at (c .before .loop .inv .2)
 

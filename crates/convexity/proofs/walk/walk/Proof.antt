@@ -81,75 +81,57 @@ module _ (c : tie.In-loop Inv-loop μ-loop) where
   low : i < o (c .before) .args .k
   low = head-low (pair (c .before) .order) (laid (c .before)) (c .before .loop .inv .1) (c .loop-test .taken)
 
--- src/walk.rt:128:17
 add-queue : tie.Need-add-queue Inv-loop μ-loop
 add-queue c = search needs
 
--- src/walk.rt:129:17
 mul-fill : tie.Need-mul-fill Inv-loop μ-loop
 mul-fill c = search needs
 
--- src/walk.rt:129:17
 sub-fill : tie.Need-sub-fill Inv-loop μ-loop
 sub-fill c = search needs
 
--- src/walk.rt:129:17
 part-fill-start : tie.Need-part-fill-start Inv-loop μ-loop
 part-fill-start c = search needs
 
--- src/walk.rt:129:17
 part-fill-end : tie.Need-part-fill-end Inv-loop μ-loop
 part-fill-end c = search needs
 
--- src/walk.rt:129:5
 fill-requires : tie.Need-fill-requires Inv-loop μ-loop
 fill-requires c κs = search needs
 
--- src/walk.rt:130:9
 seed-requires : tie.Need-seed-requires Inv-loop μ-loop
 seed-requires c κs = let f = c .before in (laid₁ f, ((pair₁ f, s f .pre .1 .1, s f .pre .1 .2), searching-first (s f .args .w .now) (ws₁ f) (laid₁ f) refl (unmarked-clear (unmarked f))))
 
--- src/walk.rt:132:5
 loop-holds : tie.Need-loop-holds Inv-loop μ-loop
 loop-holds c = (refl, searching-from (ws₂ c) (pair₂ c .order) (c .before .before .seed .ensures .tables) (c .before .before .seed .ensures))
 
--- src/walk.rt:133:20
 add-i : tie.Need-add-i Inv-loop μ-loop
 add-i c = omega (arith, laid (c .before) .fits, c .before .loop .inv .1 .held .within)
 
--- src/walk.rt:133:17
 mul-i : tie.Need-mul-i Inv-loop μ-loop
 mul-i c = search needs
 
--- src/walk.rt:133:17
 slice-read-i : tie.Need-slice-read-i Inv-loop μ-loop
 slice-read-i c = let l = c .before in omega (arith, laid (l .before) .fits, l .loop-test .taken, l .before .loop .inv .1 .held .within)
 
--- src/walk.rt:133:17
 cast-i : tie.Need-cast-i Inv-loop μ-loop
 cast-i c = let l = c .before in omega (arith, c .slice-known4 .given (o (l .before) .args .c + o (l .before) .args .k + l .before .loop .head))
 
--- src/walk.rt:134:9
 follow-requires : tie.Need-follow-requires Inv-loop μ-loop
 follow-requires c κs = let l = c .before .before in (laid (l .before), ((pair (l .before) .order, low l, l .before .loop .inv .1 .held), (table-row (pair (l .before) .full) (i l) (low l), λ j m. pair (l .before) .full .items (i l) j m)))
 
--- src/walk.rt:135:9
 add-head : tie.Need-add-head Inv-loop μ-loop
 add-head c = search needs
 
--- src/walk.rt:132:5
 loop-less : tie.Need-loop-less Inv-loop μ-loop
 loop-less c = search needs
 
--- src/walk.rt:132:5
 loop-again : tie.Need-loop-again Inv-loop μ-loop
 loop-again c = let l = c .before .before .before .before .before in (c .before .before .follow .ensures .long ∙ l .before .loop .inv .0, searching-step (pair (l .before) .order) (laid (l .before)) (l .before .loop .inv .1) (l .loop-test .taken) (c .before .before .follow .ensures))
 
--- src/walk.rt:123:1
 same-length : tie.Need-same-length Inv-loop μ-loop
 same-length c = search needs
 
--- src/walk.rt:123:1
 returns : tie.Need-returns Inv-loop μ-loop
 returns c = let a = c .before in rw (full-same (o a .args .ws .now) (ws₂ (a .before)) (pair a .order) (tables₂ (a .before)), other-same (o a .args .ws .now) (ws₂ (a .before)) (pair a .order) (tables₂ (a .before))) at (searching-last (laid a) (a .loop .inv .1) (c .loop-test .left))
 

@@ -36,35 +36,27 @@ module _ (c : tie.After-incidence) where
   t-long : length t ≡ tableLength (d s)
   t-long = c .incidence .kept .0 ∙ front s
 
--- src/acyclic.rt:19:17
 add-items : tie.Need-add-items
 add-items c = search needs
 
--- src/acyclic.rt:20:17
 add-table : tie.Need-add-table
 add-table c = search needs
 
--- src/acyclic.rt:20:17
 add-table-2 : tie.Need-add-table-2
 add-table-2 c = search needs
 
--- src/acyclic.rt:20:17
 add-table-3 : tie.Need-add-table-3
 add-table-3 c = search needs
 
--- src/acyclic.rt:21:27
 slice-relend-prefix-incidence : tie.Need-slice-relend-prefix-incidence
 slice-relend-prefix-incidence c = search needs
 
--- src/acyclic.rt:21:27
 slice-aggregate-incidence : tie.Need-slice-aggregate-incidence
 slice-aggregate-incidence c = simp length-take (omega arith)
 
--- src/acyclic.rt:21:5
 incidence-requires : tie.Need-incidence-requires
 incidence-requires c κs = let s = c .before .before .before .before .before .before .before .before in (s .pre .0, front s)
 
--- src/acyclic.rt:22:9
 kahn-requires : tie.Need-kahn-requires
 kahn-requires c κs =
     let i = c .before .before .before in (
@@ -72,15 +64,12 @@ kahn-requires c κs =
       table-stands (d (s i)) (s i .pre .0) (s i .args .ws .now) (t i) (s i .pre .1) (t-long i) (i .incidence .ensures),
     )
 
--- src/acyclic.rt:24:5
 fill-requires : tie.Need-fill-requires
 fill-requires c κs = search needs
 
--- src/acyclic.rt:14:1
 same-length : tie.Need-same-length
 same-length c = search needs
 
--- src/acyclic.rt:14:1
 returns : tie.Need-returns
 returns c =
     let k = c .before .before .before .before .before .before in

@@ -37,78 +37,60 @@ module _ (c : tie.Else1) where
   enough : workspaceNeed (d (s (c .before))) ≤ length (s (c .before) .args .ws .now)
   enough = c .if1 .left
 
--- src/acyclic.rt:32:11
 check-drawing-requires : tie.Need-check-drawing-requires
 check-drawing-requires c κs = search needs
 
--- src/acyclic.rt:33:25
 enum-known-why : tie.Need-enum-known-why
 enum-known-why c = search needs
 
--- src/acyclic.rt:35:30
 enum-told : tie.Need-enum-told
 enum-told c = search needs
 
--- src/acyclic.rt:35:30
 add-words : tie.Need-add-words
 add-words c = search needs
 
--- src/acyclic.rt:35:25
 mul-words : tie.Need-mul-words
 mul-words c = let a = accepted c in omega (arith, a .fewNodes, a .fewOps)
 
--- src/acyclic.rt:35:56
 add-words-2 : tie.Need-add-words-2
 add-words-2 c = search needs
 
--- src/acyclic.rt:35:51
 mul-words-2 : tie.Need-mul-words-2
 mul-words-2 c = search needs
 
--- src/acyclic.rt:35:25
 add-words-3 : tie.Need-add-words-3
 add-words-3 c = let a = accepted c in omega (arith, a .fewNodes, a .fewOps, a .sources .room, a .targets .room)
 
--- src/acyclic.rt:35:25
 add-words-4 : tie.Need-add-words-4
 add-words-4 c = let a = accepted c in omega (arith, a .fewNodes, a .fewOps, a .sources .room, a .targets .room)
 
--- src/acyclic.rt:37:17
 returns : tie.Need-returns
 returns c = acyclic-short (d (s (c .before))) (s (c .before) .args .ws .now) (fine (c .before)) (c .if1 .taken)
 
--- src/acyclic.rt:39:23
 slice-relend-prefix-decide : tie.Need-slice-relend-prefix-decide
 slice-relend-prefix-decide c = search needs
 
--- src/acyclic.rt:39:23
 slice-aggregate-decide : tie.Need-slice-aggregate-decide
 slice-aggregate-decide c = simp length-take (omega arith)
 
--- src/acyclic.rt:39:16
 decide-requires : tie.Need-decide-requires
 decide-requires c κs = let f = c .before .before in (accepted f, length-take-le (workspaceNeed (d (s f))) (s f .args .ws .now) (enough (c .before)))
 
--- src/acyclic.rt:29:1
 returns-2 : tie.Need-returns-2
 returns-2 c = let s = c .before .before .before .before .before .before .before .before .before .before .before in acyclic-faulty (d s) (s .args .ws .now) (c .before .why .given .0 .0) (faulty-number (c .before .before .before .check-drawing .result) (c .before .why .given .0 .0) (c .before .before .before .check-drawing .ensures .refusal) (cc))
 
--- src/acyclic.rt:29:1
 same-length : tie.Need-same-length
 same-length c = search needs
 
--- src/acyclic.rt:29:1
 returns-3 : tie.Need-returns-3
 returns-3 c =
     let e = c .before .before .before .before .before in
     let f = e .before in
     rw (c .if2 .taken) at (acyclic-decided (d (s f)) (s f .args .ws .now) (c .before .before .before .decide .last .0) (c .before .before .before .decide .result) (fine f) (enough e) (c .before .before .before .decide .ensures))
 
--- src/acyclic.rt:29:1
 same-length-2 : tie.Need-same-length-2
 same-length-2 c = search needs
 
--- src/acyclic.rt:29:1
 returns-4 : tie.Need-returns-4
 returns-4 c =
     let e = c .before .before .before .before .before in

@@ -102,197 +102,149 @@ module _ (c : tie.In-loop Inv-loop μ-loop) where
     depth-kept : f ≡ getD ws' (b + k + k + x) 0
     depth-kept = rw z (sym (depth-stored k b len x (g - 1) f ws laid (may .low) room))
 
--- src/kahn.rt:69:16
 add-i : tie.Need-add-i Inv-loop μ-loop
 add-i c = search needs
 
--- src/kahn.rt:69:16
 add-i-2 : tie.Need-add-i-2 Inv-loop μ-loop
 add-i-2 c = search needs
 
--- src/kahn.rt:69:13
 mul-i : tie.Need-mul-i Inv-loop μ-loop
 mul-i c = search needs
 
--- src/kahn.rt:69:13
 slice-read-i : tie.Need-slice-read-i Inv-loop μ-loop
 slice-read-i c = search needs
 
--- src/kahn.rt:69:13
 cast-i : tie.Need-cast-i Inv-loop μ-loop
 cast-i c = let s = c .before .before in omega (arith, c .slice-known2 .given (s .args .b + s .args .k + s .args .head))
 
--- src/kahn.rt:70:18
 add-far : tie.Need-add-far Inv-loop μ-loop
 add-far c = search needs
 
--- src/kahn.rt:70:18
 add-far-2 : tie.Need-add-far-2 Inv-loop μ-loop
 add-far-2 c = search needs
 
--- src/kahn.rt:70:18
 add-far-3 : tie.Need-add-far-3 Inv-loop μ-loop
 add-far-3 c = omega (arith, low (c .before .before))
 
--- src/kahn.rt:70:15
 mul-far : tie.Need-mul-far Inv-loop μ-loop
 mul-far c = omega (arith, low (c .before .before))
 
--- src/kahn.rt:70:15
 slice-read-far : tie.Need-slice-read-far Inv-loop μ-loop
 slice-read-far c = omega (arith, low (c .before .before .before))
 
--- src/kahn.rt:70:15
 add-far-4 : tie.Need-add-far-4 Inv-loop μ-loop
 add-far-4 c = let s = c .before .before .before in omega (arith, shallow s, s .pre .0 .small, s .pre .0 .table)
 
--- src/kahn.rt:71:18
 add-end : tie.Need-add-end Inv-loop μ-loop
 add-end c = omega (arith, low (c .before .before .before))
 
--- src/kahn.rt:71:15
 mul-end : tie.Need-mul-end Inv-loop μ-loop
 mul-end c = omega (arith, low (c .before .before .before))
 
--- src/kahn.rt:71:15
 slice-read-end : tie.Need-slice-read-end Inv-loop μ-loop
 slice-read-end c = omega (arith, low (c .before .before .before .before))
 
--- src/kahn.rt:71:15
 cast-end : tie.Need-cast-end Inv-loop μ-loop
 cast-end c = let s = c .before .before .before .before in omega (arith, c .slice-known4 .given (i s + 1))
 
--- src/kahn.rt:72:17
 mul-p : tie.Need-mul-p Inv-loop μ-loop
 mul-p c = omega (arith, low (c .before .before .before .before))
 
--- src/kahn.rt:72:17
 slice-read-p : tie.Need-slice-read-p Inv-loop μ-loop
 slice-read-p c = omega (arith, low (c .before .before .before .before .before))
 
--- src/kahn.rt:72:17
 cast-p : tie.Need-cast-p Inv-loop μ-loop
 cast-p c = let s = c .before .before .before .before .before in omega (arith, c .slice-known5 .given (i s))
 
--- src/kahn.rt:75:23
 add-left : tie.Need-add-left Inv-loop μ-loop
 add-left c = omega (arith, low (c .before .before .before .before .before))
 
--- src/kahn.rt:75:20
 mul-left : tie.Need-mul-left Inv-loop μ-loop
 mul-left c = omega (arith, low (c .before .before .before .before .before))
 
--- src/kahn.rt:75:20
 slice-read-left : tie.Need-slice-read-left Inv-loop μ-loop
 slice-read-left c = omega (arith, low (c .before .before .before .before .before .before))
 
--- src/kahn.rt:76:24
 add-depth : tie.Need-add-depth Inv-loop μ-loop
 add-depth c = search needs
 
--- src/kahn.rt:76:24
 add-depth-2 : tie.Need-add-depth-2 Inv-loop μ-loop
 add-depth-2 c = search needs
 
--- src/kahn.rt:76:24
 add-depth-3 : tie.Need-add-depth-3 Inv-loop μ-loop
 add-depth-3 c = omega (arith, low (c .before .before .before .before .before .before))
 
--- src/kahn.rt:76:21
 mul-depth : tie.Need-mul-depth Inv-loop μ-loop
 mul-depth c = omega (arith, low (c .before .before .before .before .before .before))
 
--- src/kahn.rt:76:21
 slice-read-depth : tie.Need-slice-read-depth Inv-loop μ-loop
 slice-read-depth c = omega (arith, low (c .before .before .before .before .before .before .before))
 
--- src/kahn.rt:77:5
 loop-holds : tie.Need-loop-holds Inv-loop μ-loop
 loop-holds c =
     let s = c .before .before .before .before .before .before .before in
     (refl, row-in s, low s, refl, refl, taken (s .pre .0) (s .pre .1 .0) (s .pre .1 .1 .0) (s .pre .1 .1 .1))
 
--- src/kahn.rt:78:20
 add-s : tie.Need-add-s Inv-loop μ-loop
 add-s c = search needs
 
--- src/kahn.rt:78:20
 add-s-2 : tie.Need-add-s-2 Inv-loop μ-loop
 add-s-2 c = search needs
 
--- src/kahn.rt:78:17
 mul-s : tie.Need-mul-s Inv-loop μ-loop
 mul-s c = search needs
 
--- src/kahn.rt:78:17
 slice-read-s : tie.Need-slice-read-s Inv-loop μ-loop
 slice-read-s c = search needs
 
--- src/kahn.rt:79:18
 cast-at : tie.Need-cast-at Inv-loop μ-loop
 cast-at c = omega (arith, c .slice-known8 .given (k (c .before) + 1 + p (c .before)))
 
--- src/kahn.rt:80:33
 add-known : tie.Need-add-known Inv-loop μ-loop
 add-known c = omega (arith, may (c .before .before) .low)
 
--- src/kahn.rt:80:41
 add-known-2 : tie.Need-add-known-2 Inv-loop μ-loop
 add-known-2 c = search needs
 
--- src/kahn.rt:80:16
 known-requires : tie.Need-known-requires Inv-loop μ-loop
 known-requires c κs = let l = c .before .before in (omega (arith, may l .low, laid l .fits), l .before .loop .inv .3)
 
--- src/kahn.rt:80:16
 sub-left : tie.Need-sub-left Inv-loop μ-loop
 sub-left c = omega (arith, c .known .ensures, may (c .before .before .before) .some)
 
--- src/kahn.rt:81:48
 add-known-3 : tie.Need-add-known-3 Inv-loop μ-loop
 add-known-3 c = search needs
 
--- src/kahn.rt:81:48
 add-known-4 : tie.Need-add-known-4 Inv-loop μ-loop
 add-known-4 c = search needs
 
--- src/kahn.rt:81:48
 add-known-5 : tie.Need-add-known-5 Inv-loop μ-loop
 add-known-5 c = omega (arith, may (c .before .before .before .before) .low)
 
--- src/kahn.rt:81:64
 add-known-6 : tie.Need-add-known-6 Inv-loop μ-loop
 add-known-6 c = search needs
 
--- src/kahn.rt:81:64
 add-known-7 : tie.Need-add-known-7 Inv-loop μ-loop
 add-known-7 c = search needs
 
--- src/kahn.rt:81:64
 add-known-8 : tie.Need-add-known-8 Inv-loop μ-loop
 add-known-8 c = search needs
 
--- src/kahn.rt:81:31
 known-requires-2 : tie.Need-known-requires-2 Inv-loop μ-loop
 known-requires-2 c κs = let l = c .before .before .before .before in (omega (arith, may l .low, laid l .fits), l .before .loop .inv .4)
 
--- src/kahn.rt:81:9
 larger-requires : tie.Need-larger-requires Inv-loop μ-loop
 larger-requires c κs = search needs
 
--- src/kahn.rt:82:9
 release-requires : tie.Need-release-requires Inv-loop μ-loop
 release-requires c κs = let l = c .before .before .before .before .before .before .before in (laid l, (may l .low, room l))
 
--- src/kahn.rt:84:9
 add-p : tie.Need-add-p Inv-loop μ-loop
 add-p c = search needs
 
--- src/kahn.rt:77:5
 loop-less : tie.Need-loop-less Inv-loop μ-loop
 loop-less c = search needs
 
--- src/kahn.rt:77:5
 loop-again : tie.Need-loop-again Inv-loop μ-loop
 loop-again c =
     let l = c .before .before .before .before .before .before .before .before .before .before in
@@ -304,11 +256,9 @@ loop-again c =
     let y = released l (n .result) (n .ensures) (m .result) q (d .last .0) (d .ensures .0) (d .result) (d .ensures .1) in
     (y .long ∙ l .before .loop .inv .0, l .before .loop .inv .1, may l .low, degree-kept l (n .result) (n .ensures) (m .result) q (d .last .0) (d .ensures .0), depth-kept l (n .result) (n .ensures) (m .result) q (d .last .0) (d .ensures .0), release-stands (laid l) (next l) y)
 
--- src/kahn.rt:63:1
 same-length : tie.Need-same-length Inv-loop μ-loop
 same-length c = search needs
 
--- src/kahn.rt:63:1
 returns : tie.Need-returns Inv-loop μ-loop
 returns c =
     let s = c .before .before .before .before .before .before .before .before .before in

@@ -64,42 +64,33 @@ module _ (c : tie.At-loop Inv-loop μ-loop) where
   table : Table (s₂ (c .before) .args .k) (take (s₂ (c .before) .args .b) (c .loop .ws))
   table = rw (kept, same (c .before)) (s₂ (c .before) .pre .1)
 
--- src/kahn.rt:88:5
 prepare-requires : tie.Need-prepare-requires Inv-loop μ-loop
 prepare-requires c κs = search needs
 
--- src/kahn.rt:89:9
 seed-requires : tie.Need-seed-requires Inv-loop μ-loop
 seed-requires c κs = (laid₁ (c .before), rw (began (c .before) .table) (began (c .before)))
 
--- src/kahn.rt:91:5
 loop-holds : tie.Need-loop-holds Inv-loop μ-loop
 loop-holds c = (omega arith, refl, rw (seeded c .table) (seeded c))
 
--- src/kahn.rt:92:9
 follow-requires : tie.Need-follow-requires Inv-loop μ-loop
 follow-requires c κs = let l = c .before .before in (laid l, (table l, (rw (kept l) (l .loop .inv .2), c .before .loop-test .taken)))
 
--- src/kahn.rt:93:9
 add-head : tie.Need-add-head Inv-loop μ-loop
 add-head c = search needs
 
--- src/kahn.rt:91:5
 loop-less : tie.Need-loop-less Inv-loop μ-loop
 loop-less c = search needs
 
--- src/kahn.rt:91:5
 loop-again : tie.Need-loop-again Inv-loop μ-loop
 loop-again c =
     let l = c .before .before .before .before .before in
     let w = c .before .before .follow .ensures in
     (worked-within (still-laid (laid l) (c .before .before .follow .kept .0)) w, c .before .before .follow .kept .0 ∙ l .loop .inv .1, rw (kept l) at w)
 
--- src/kahn.rt:83:1
 same-length : tie.Need-same-length Inv-loop μ-loop
 same-length c = search needs
 
--- src/kahn.rt:83:1
 returns : tie.Need-returns Inv-loop μ-loop
 returns c = rw (same (c .before .before)) at (stands-last (laid (c .before)) (c .before .loop .inv .2) (c .before .loop .inv .0) (c .loop-test .left))
 

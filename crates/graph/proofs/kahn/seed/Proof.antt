@@ -52,67 +52,51 @@ module _ (c : tie.In-loop Inv-loop μ-loop) where
     released : Released (s .args .k) (s .args .b) (c .before .loop .tail) i 0 ws r ws'
     released = rw (z, e, q) (followed (s .args .k) (s .args .b) (c .before .loop .tail) i 0 ws laid may room)
 
--- src/kahn.rt:52:5
 loop-holds : tie.Need-loop-holds Inv-loop μ-loop
 loop-holds c = let s = c .before in let e : s .args .k - 0 ≡ s .args .k = omega arith in (omega arith, refl, rw e (s .pre .1))
 
--- src/kahn.rt:53:23
 add-left : tie.Need-add-left Inv-loop μ-loop
 add-left c = search needs
 
--- src/kahn.rt:53:20
 mul-left : tie.Need-mul-left Inv-loop μ-loop
 mul-left c = search needs
 
--- src/kahn.rt:53:20
 slice-read-left : tie.Need-slice-read-left Inv-loop μ-loop
 slice-read-left c = search needs
 
--- src/kahn.rt:53:20
 sub-left : tie.Need-sub-left Inv-loop μ-loop
 sub-left c = omega (arith, may (c .before) .some)
 
--- src/kahn.rt:54:38
 add-larger : tie.Need-add-larger Inv-loop μ-loop
 add-larger c = search needs
 
--- src/kahn.rt:54:38
 add-larger-2 : tie.Need-add-larger-2 Inv-loop μ-loop
 add-larger-2 c = search needs
 
--- src/kahn.rt:54:38
 add-larger-3 : tie.Need-add-larger-3 Inv-loop μ-loop
 add-larger-3 c = search needs
 
--- src/kahn.rt:54:35
 mul-larger : tie.Need-mul-larger Inv-loop μ-loop
 mul-larger c = search needs
 
--- src/kahn.rt:54:35
 slice-read-larger : tie.Need-slice-read-larger Inv-loop μ-loop
 slice-read-larger c = search needs
 
--- src/kahn.rt:54:13
 larger-requires : tie.Need-larger-requires Inv-loop μ-loop
 larger-requires c κs = search needs
 
--- src/kahn.rt:55:40
 cast-release : tie.Need-cast-release Inv-loop μ-loop
 cast-release c = let s = c .before .before .before .before .before .before .before in omega (arith, s .pre .0 .small, s .pre .0 .table)
 
--- src/kahn.rt:55:9
 release-requires : tie.Need-release-requires Inv-loop μ-loop
 release-requires c κs = let l = c .before .before .before .before in (laid l, (l .loop-test .taken, room l))
 
--- src/kahn.rt:56:9
 add-i : tie.Need-add-i Inv-loop μ-loop
 add-i c = search needs
 
--- src/kahn.rt:52:5
 loop-less : tie.Need-loop-less Inv-loop μ-loop
 loop-less c = search needs
 
--- src/kahn.rt:52:5
 loop-again : tie.Need-loop-again Inv-loop μ-loop
 loop-again c =
     let l = c .before .before .before .before .before .before .before in
@@ -121,11 +105,9 @@ loop-again c =
     let y = released l (m .result) (m .ensures) (d .last .0) (d .ensures .0) (d .result) (d .ensures .1) in
     (omega arith, y .long ∙ l .before .loop .inv .1, release-stands (laid l) (next l) y)
 
--- src/kahn.rt:45:1
 same-length : tie.Need-same-length Inv-loop μ-loop
 same-length c = search needs
 
--- src/kahn.rt:45:1
 returns : tie.Need-returns Inv-loop μ-loop
 returns c = rw (upFrom-over (c .before .loop .i) (c .before .before .before .args .k) (c .loop-test .left)) at (c .before .loop .inv .2)
 

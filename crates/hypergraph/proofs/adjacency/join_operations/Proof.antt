@@ -21,73 +21,56 @@ module _ (s : tie.Start) where
   abbrev q : ℕ
   q = length (s .args .w .now) + 1 + length (s .args .sv .now) + (length (s .args .tl .now) + 1) - (length (s .args .w .now) + 1 + length (s .args .sv .now))
 
--- src/adjacency.rt:113:17
 add-items : tie.Need-add-items
 add-items c = search needs
 
--- src/adjacency.rt:114:17
 add-table : tie.Need-add-table
 add-table c = search needs
 
--- src/adjacency.rt:115:24
 add-end : tie.Need-add-end
 add-end c = search needs
 
--- src/adjacency.rt:115:15
 add-end-2 : tie.Need-add-end-2
 add-end-2 c = search needs
 
--- src/adjacency.rt:116:50
 mul-flatmap : tie.Need-mul-flatmap
 mul-flatmap c = search needs
 
--- src/adjacency.rt:116:50
 sub-flatmap : tie.Need-sub-flatmap
 sub-flatmap c = search needs
 
--- src/adjacency.rt:116:50
 part-flatmap-start : tie.Need-part-flatmap-start
 part-flatmap-start c = search needs
 
--- src/adjacency.rt:116:50
 part-flatmap-end : tie.Need-part-flatmap-end
 part-flatmap-end c = omega (arith, c .before .before .before .before .before .before .before .before .before .pre .1 .0 .fits)
 
--- src/adjacency.rt:116:71
 slice-aggregate-flatmap : tie.Need-slice-aggregate-flatmap
 slice-aggregate-flatmap c = search needs
 
--- src/adjacency.rt:116:85
 mul-flatmap-2 : tie.Need-mul-flatmap-2
 mul-flatmap-2 c = search needs
 
--- src/adjacency.rt:116:85
 sub-flatmap-2 : tie.Need-sub-flatmap-2
 sub-flatmap-2 c = search needs
 
--- src/adjacency.rt:116:85
 part-flatmap-start-2 : tie.Need-part-flatmap-start-2
 part-flatmap-start-2 c = search needs
 
--- src/adjacency.rt:116:85
 part-flatmap-end-2 : tie.Need-part-flatmap-end-2
 part-flatmap-end-2 c = omega (arith, c .before .before .before .before .before .before .before .before .before .before .before .pre .1 .0 .fits)
 
--- src/adjacency.rt:116:5
 flatmap-requires : tie.Need-flatmap-requires
 flatmap-requires c κs =
     let s = c .before .before .before .before .before .before .before .before .before .before .before .before .before .before in
     (op-joinable (d s) (s .pre .0) (p s) (q s) (s .args .ws .now) (omega arith) (omega arith) (s .pre .1 .0), (s .pre .1 .1 .0, omega (arith, op-room (d s) (s .pre .0) (p s) (q s) (s .args .ws .now) (omega arith) (omega arith) (s .pre .1 .0), s .pre .1 .1 .1)))
 
--- src/adjacency.rt:97:1
 same-length : tie.Need-same-length
 same-length c = search needs
 
--- src/adjacency.rt:97:1
 same-length-2 : tie.Need-same-length-2
 same-length-2 c = search needs
 
--- src/adjacency.rt:97:1
 returns : tie.Need-returns
 returns c =
     let s = c .before .before .before .before .before .before .before .before .before .before .before .before .before .before .before .before .before .before .before in

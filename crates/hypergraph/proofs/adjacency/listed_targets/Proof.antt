@@ -14,28 +14,23 @@ module _ (s : tie.Start) where
   abbrev d : Drawing
   d = drawing (s .args .w .now) (s .args .x .now) (s .args .sl .now) (s .args .sv .now) (s .args .tl .now) (s .args .tv .now)
 
--- src/adjacency.rt:35:25
 slice-aggregate-count-values : tie.Need-slice-aggregate-count-values
 slice-aggregate-count-values c = search needs
 
--- src/adjacency.rt:35:5
 count-values-requires : tie.Need-count-values-requires
 count-values-requires c κs =
     let s = c .before .before .before .before .before .before .before in
     ((s .pre .sources .below, s .pre .fewNodes), λ v h. omega (arith, zeros 4096 v, s .pre .sources .room))
 
--- src/adjacency.rt:36:19
 slice-aggregate-sum-at : tie.Need-slice-aggregate-sum-at
 slice-aggregate-sum-at c = search needs
 
--- src/adjacency.rt:36:5
 sum-at-requires : tie.Need-sum-at-requires
 sum-at-requires c κs =
     let k = c .before .before in
     let s = k .before .before .before .before .before .before .before .before in
     (λ v m. omega (arith, s .pre .targets .below v m, s .pre .fewNodes, k .count-values .kept .0), omega (arith, counted-listings 4096 (s .args .sv .now) (k .count-values .last .0) (s .args .tv .now) (k .count-values .ensures), op-size-fits (d s) (s .pre)))
 
--- src/adjacency.rt:30:1
 returns : tie.Need-returns
 returns c =
     let k = c .before .before .before in

@@ -59,41 +59,32 @@ module _ (c : tie.Then1) where
   fits : (k (s f) ≤ length (s f .args .lens .now)) × (size f ≤ length (s f .args .vals .now)) × (words ≤ length (s f .args .ws .now))
   fits = rooms-three {need₁ = k (s f)} {room₁ = length (s f .args .lens .now)} {need₂ = size f} {room₂ = length (s f .args .vals .now)} {words = words} {room = length (s f .args .ws .now)} (c .if1 .taken)
 
--- src/adjacency.rt:210:11
 operation-adjacency-size-requires : tie.Need-operation-adjacency-size-requires
 operation-adjacency-size-requires c κs = search needs
 
--- src/adjacency.rt:211:23
 enum-known-why : tie.Need-enum-known-why
 enum-known-why c = search needs
 
--- src/adjacency.rt:212:23
 enum-known-size : tie.Need-enum-known-size
 enum-known-size c = search needs
 
--- src/adjacency.rt:213:17
 workspace-need-requires : tie.Need-workspace-need-requires
 workspace-need-requires c κs = accepted c
 
--- src/adjacency.rt:214:43
 cast-if1 : tie.Need-cast-if1
 cast-if1 c = search needs
 
--- src/adjacency.rt:215:34
 slice-relend-prefix-write-operations : tie.Need-slice-relend-prefix-write-operations
 slice-relend-prefix-write-operations c = fits c .2
 
--- src/adjacency.rt:215:34
 slice-aggregate-write-operations : tie.Need-slice-aggregate-write-operations
 slice-aggregate-write-operations c = simp length-take (omega (arith, fits (c .before)))
 
--- src/adjacency.rt:215:17
 write-operations-requires : tie.Need-write-operations-requires
 write-operations-requires c κs =
     let i = c .before .before .before in
     (accepted (f i), (length-take-le (words i) (s (f i) .args .ws .now) (fits i .2) ∙ i .before .workspace-need .ensures, (fits i .0, omega (arith, size-is (f i), fits i .1))))
 
--- src/adjacency.rt:197:1
 returns : tie.Need-returns
 returns c =
     let s = c .before .before .before .before .before .before .before .before .before .before .before .before .before in
@@ -101,19 +92,15 @@ returns c =
     (s .args .lens .now) (s .args .vals .now) (s .args .ws .now) (c .before .why .given .0 .0)
     (unsized-number (c .before .before .before .operation-adjacency-size .result) (c .before .why .given .0 .0) (c .before .before .before .operation-adjacency-size .ensures .refusal) (cc))
 
--- src/adjacency.rt:197:1
 same-length : tie.Need-same-length
 same-length c = search needs
 
--- src/adjacency.rt:197:1
 same-length-2 : tie.Need-same-length-2
 same-length-2 c = search needs
 
--- src/adjacency.rt:197:1
 same-length-3 : tie.Need-same-length-3
 same-length-3 c = search needs
 
--- src/adjacency.rt:197:1
 returns-2 : tie.Need-returns-2
 returns-2 c =
     let v = c .before .before .before .before .before .before in
@@ -125,7 +112,6 @@ returns-2 c =
     (s .args .lens .now) (v .write-operations .last .1 .1 .1 .1 .1 .1 .1 .0) (s .args .vals .now) (v .write-operations .last .1 .1 .1 .1 .1 .1 .1 .1 .0) (s .args .ws .now) (v .write-operations .last .0 ++ drop (words i) (s .args .ws .now)) (i .if1 .taken) (v .write-operations .ensures .0)
     (ap (λ (l : List ℕ). l ++ drop (words i) (s .args .ws .now)) (v .write-operations .ensures .1 ∙ ap (λ (m : ℕ). replicate m 0) (length-take-le (words i) (s .args .ws .now) (fits i .2)))))
 
--- src/adjacency.rt:197:1
 returns-3 : tie.Need-returns-3
 returns-3 c =
     let f = c .before .before in

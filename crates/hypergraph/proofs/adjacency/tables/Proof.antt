@@ -16,61 +16,47 @@ module _ (s : tie.Start) where
   abbrev table : ℕ
   table = s .args .n + 1 + length (s .args .sv .now)
 
--- src/adjacency.rt:66:17
 add-table : tie.Need-add-table
 add-table c = search needs
 
--- src/adjacency.rt:66:17
 add-table-2 : tie.Need-add-table-2
 add-table-2 c = search needs
 
--- src/adjacency.rt:67:24
 add-end : tie.Need-add-end
 add-end c = search needs
 
--- src/adjacency.rt:67:15
 add-end-2 : tie.Need-add-end-2
 add-end-2 c = search needs
 
--- src/adjacency.rt:68:43
 slice-relend-prefix-converse : tie.Need-slice-relend-prefix-converse
 slice-relend-prefix-converse c = search needs
 
--- src/adjacency.rt:68:43
 slice-aggregate-converse : tie.Need-slice-aggregate-converse
 slice-aggregate-converse c = simp length-take (omega arith)
 
--- src/adjacency.rt:68:5
 converse-requires : tie.Need-converse-requires
 converse-requires c κs =
     let s = c .before .before .before .before .before in
     (s .pre .0 .0, length-take-le (table s) (s .args .ws .now) (omega (arith, s .pre .1)))
 
--- src/adjacency.rt:69:41
 mul-starts : tie.Need-mul-starts
 mul-starts c = search needs
 
--- src/adjacency.rt:69:41
 sub-starts : tie.Need-sub-starts
 sub-starts c = search needs
 
--- src/adjacency.rt:69:41
 part-starts-start : tie.Need-part-starts-start
 part-starts-start c = search needs
 
--- src/adjacency.rt:69:41
 part-starts-end : tie.Need-part-starts-end
 part-starts-end c = search needs
 
--- src/adjacency.rt:69:5
 starts-requires : tie.Need-starts-requires
 starts-requires c κs = search needs
 
--- src/adjacency.rt:61:1
 same-length : tie.Need-same-length
 same-length c = search needs
 
--- src/adjacency.rt:61:1
 returns : tie.Need-returns
 returns c =
     let y = c .before .before in

@@ -16,34 +16,27 @@ module _ (s : tie.Start) where
   abbrev d : Drawing
   d = drawing (s .args .w .now) (s .args .x .now) (s .args .sl .now) (s .args .sv .now) (s .args .tl .now) (s .args .tv .now)
 
--- src/adjacency.rt:162:5
 tables-requires : tie.Need-tables-requires
 tables-requires c κs =
     let s = c .before .before .before .before .before .before .before .before .before .before in
     let a = s .pre .0 in
     ((sources-listed (d s) 0 a (omega arith), omega (arith, a .targets .total, a .targets .room)), omega (arith, s .pre .1 .0, a .targets .count))
 
--- src/adjacency.rt:163:5
 join-operations-requires : tie.Need-join-operations-requires
 join-operations-requires c κs = search needs
 
--- src/adjacency.rt:165:5
 fill-requires : tie.Need-fill-requires
 fill-requires c κs = search needs
 
--- src/adjacency.rt:146:1
 same-length : tie.Need-same-length
 same-length c = search needs
 
--- src/adjacency.rt:146:1
 same-length-2 : tie.Need-same-length-2
 same-length-2 c = search needs
 
--- src/adjacency.rt:146:1
 same-length-3 : tie.Need-same-length-3
 same-length-3 c = search needs
 
--- src/adjacency.rt:146:1
 returns : tie.Need-returns
 returns c =
     let j = c .before .before .before .before .before .before .before .before in

@@ -5,15 +5,12 @@ use Rattle.hypergraph.proofs.check.boundary_stands.Reads as reads
 use Rattle.hypergraph.proofs.check.boundary_stands.Lts as lts
 use Rattle.array.proofs.all_below.Reads as all-below-reads
 
--- src/check.rt:102:5
 all-below-requires : tie.Need-all-below-requires
 all-below-requires c κs = search needs
 
--- src/check.rt:102:35
 all-below-requires-2 : tie.Need-all-below-requires-2
 all-below-requires-2 c κs = search needs
 
--- src/check.rt:99:1
 returns : tie.Need-returns
 returns c = cc
 

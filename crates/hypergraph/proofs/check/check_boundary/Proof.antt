@@ -9,24 +9,19 @@ use Rattle.hypergraph.proofs.check.boundary_within.Reads as boundary-wi
 use Rattle.hypergraph.proofs.check.check_boundary_lists.Reads as check-boundary-lists-reads
 use Rattle.hypergraph.proofs.check.counts_within.Reads as counts-within-reads
 
--- src/check.rt:143:8
 counts-within-requires : tie.Need-counts-within-requires
 counts-within-requires c κs = search needs
 
--- src/check.rt:143:46
 boundary-within-requires : tie.Need-boundary-within-requires
 boundary-within-requires c κs = search needs
 
--- src/check.rt:144:9
 check-boundary-lists-requires : tie.Need-check-boundary-lists-requires
 check-boundary-lists-requires c κs = search needs
 
--- src/check.rt:131:1
 returns : tie.Need-returns
 unfolding boundaryRefusal boundaryListsRefusal
 returns c = record { refusal = rw (← c .before .before .boundary-within .ensures, ← c .before .before .before .counts-within .ensures, c .before .if1 .taken) (c .check-boundary-lists .ensures) }
 
--- src/check.rt:131:1
 returns-2 : tie.Need-returns-2
 unfolding boundaryRefusal
 returns-2 c = record { refusal = rw (← c .before .boundary-within .ensures, ← c .before .before .counts-within .ensures, c .if1 .left) }

@@ -30,33 +30,26 @@ module _ (c : tie.After-boundary-stands) where
       (fine-none (c .before .before .before .check-lists .result) (c .before .before .before .check-lists .ensures) (cc))
       (sym q ∙ c .boundary-stands .ensures)
 
--- src/check.rt:118:11
 check-lists-requires : tie.Need-check-lists-requires
 check-lists-requires c κs = search needs
 
--- src/check.rt:119:22
 enum-known-why : tie.Need-enum-known-why
 enum-known-why c = search needs
 
--- src/check.rt:121:32
 enum-told : tie.Need-enum-told
 enum-told c = search needs
 
--- src/check.rt:121:16
 boundary-stands-requires : tie.Need-boundary-stands-requires
 boundary-stands-requires c κs = search needs
 
--- src/check.rt:106:1
 returns : tie.Need-returns
 returns c =
     let s = c .before .before .before .before .before .before .before .before .before .before .before .before in
     bound-faulty (d s) (b s) (c .before .why .given .0 .0) (faulty-number (c .before .before .before .check-lists .result) (c .before .why .given .0 .0) (c .before .before .before .check-lists .ensures) (cc))
 
--- src/check.rt:106:1
 returns-2 : tie.Need-returns-2
 returns-2 c = tested (c .before) true (c .if1 .taken)
 
--- src/check.rt:106:1
 returns-3 : tie.Need-returns-3
 returns-3 c = tested (c .before) false (c .if1 .left)
 

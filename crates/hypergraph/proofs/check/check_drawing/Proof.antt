@@ -8,20 +8,16 @@ use Rattle.hypergraph.proofs.check.check_drawing.Lts as lts
 use Rattle.hypergraph.proofs.check.check_lists.Reads as check-lists-reads
 use Rattle.hypergraph.proofs.check.counts_within.Reads as counts-within-reads
 
--- src/check.rt:62:8
 counts-within-requires : tie.Need-counts-within-requires
 counts-within-requires c κs = search needs
 
--- src/check.rt:63:9
 check-lists-requires : tie.Need-check-lists-requires
 check-lists-requires c κs = search needs
 
--- src/check.rt:52:1
 returns : tie.Need-returns
 unfolding drawingRefusal listsRefusal
 returns c = record { refusal = rw (← c .before .before .counts-within .ensures, c .before .if1 .taken) (c .check-lists .ensures) }
 
--- src/check.rt:52:1
 returns-2 : tie.Need-returns-2
 unfolding drawingRefusal
 returns-2 c = record { refusal = rw (← c .before .counts-within .ensures, c .if1 .left) }

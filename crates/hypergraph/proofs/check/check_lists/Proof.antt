@@ -7,25 +7,20 @@ use Rattle.hypergraph.proofs.check.check_lists.Lts as lts
 use Rattle.hypergraph.proofs.check.lengths_fit.Reads as lengths-fit-reads
 use Rattle.hypergraph.proofs.check.values_stand.Reads as values-stand-reads
 
--- src/check.rt:40:8
 lengths-fit-requires : tie.Need-lengths-fit-requires
 lengths-fit-requires c κs = search needs
 
--- src/check.rt:41:12
 values-stand-requires : tie.Need-values-stand-requires
 values-stand-requires c κs = search needs
 
--- src/check.rt:37:1
 returns : tie.Need-returns
 unfolding listsRefusal
 returns c = rw (← c .before .before .values-stand .ensures, ← c .before .before .before .lengths-fit .ensures, c .before .if1 .taken, c .if2 .taken)
 
--- src/check.rt:37:1
 returns-2 : tie.Need-returns-2
 unfolding listsRefusal
 returns-2 c = rw (← c .before .before .values-stand .ensures, ← c .before .before .before .lengths-fit .ensures, c .before .if1 .taken, c .if2 .left)
 
--- src/check.rt:37:1
 returns-3 : tie.Need-returns-3
 unfolding listsRefusal
 returns-3 c = rw (← c .before .before .lengths-fit .ensures, c .if1 .left)

@@ -7,25 +7,20 @@ use Rattle.hypergraph.proofs.check.check_maps.Lts as lts
 use Rattle.hypergraph.proofs.check.entries_stand.Reads as entries-stand-reads
 use Rattle.hypergraph.proofs.check.maps_within.Reads as maps-within-reads
 
--- src/check.rt:80:8
 maps-within-requires : tie.Need-maps-within-requires
 maps-within-requires c κs = search needs
 
--- src/check.rt:81:12
 entries-stand-requires : tie.Need-entries-stand-requires
 entries-stand-requires c κs = search needs
 
--- src/check.rt:77:1
 returns : tie.Need-returns
 unfolding mapsRefusal
 returns c = record { refusal = rw (← c .before .entries-stand .ensures, ← c .before .before .before .maps-within .ensures, c .before .before .if1 .taken, c .if2 .taken) }
 
--- src/check.rt:77:1
 returns-2 : tie.Need-returns-2
 unfolding mapsRefusal
 returns-2 c = record { refusal = rw (← c .before .entries-stand .ensures, ← c .before .before .before .maps-within .ensures, c .before .before .if1 .taken, c .if2 .left) }
 
--- src/check.rt:77:1
 returns-3 : tie.Need-returns-3
 unfolding mapsRefusal
 returns-3 c = record { refusal = rw (← c .before .maps-within .ensures, c .if1 .left) }

@@ -5,15 +5,12 @@ use Rattle.hypergraph.proofs.check.entries_stand.Reads as reads
 use Rattle.hypergraph.proofs.check.entries_stand.Lts as lts
 use Rattle.array.proofs.all_below.Reads as all-below-reads
 
--- src/check.rt:73:5
 all-below-requires : tie.Need-all-below-requires
 all-below-requires c κs = search needs
 
--- src/check.rt:73:41
 all-below-requires-2 : tie.Need-all-below-requires-2
 all-below-requires-2 c κs = search needs
 
--- src/check.rt:70:1
 returns : tie.Need-returns
 returns c = cc
 

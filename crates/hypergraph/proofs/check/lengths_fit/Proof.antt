@@ -5,15 +5,12 @@ use Rattle.hypergraph.proofs.check.lengths_fit.Reads as reads
 use Rattle.hypergraph.proofs.check.lengths_fit.Lts as lts
 use Rattle.array.proofs.sums_to.Reads as sums-to-reads
 
--- src/lib.rt:21:29
 sums-to-requires : tie.Need-sums-to-requires
 sums-to-requires c κs = search needs
 
--- src/lib.rt:21:84
 sums-to-requires-2 : tie.Need-sums-to-requires-2
 sums-to-requires-2 c κs = search needs
 
--- src/lib.rt:18:1
 returns : tie.Need-returns
 returns c = cc
 

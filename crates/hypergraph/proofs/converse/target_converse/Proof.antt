@@ -32,29 +32,23 @@ module _ (c : tie.After-enum-told) where
   accepted : Accepted (d s)
   accepted = (accepted-iff (d s)) .0 fine
 
--- src/converse.rt:92:11
 check-drawing-requires : tie.Need-check-drawing-requires
 check-drawing-requires c κs = search needs
 
--- src/converse.rt:93:22
 enum-known-why : tie.Need-enum-known-why
 enum-known-why c = search needs
 
--- src/converse.rt:95:17
 enum-told : tie.Need-enum-told
 enum-told c = search needs
 
--- src/converse.rt:95:17
 workspace-need-requires : tie.Need-workspace-need-requires
 workspace-need-requires c κs = accepted c
 
--- src/converse.rt:96:13
 write-converse-requires : tie.Need-write-converse-requires
 write-converse-requires c κs =
     let f = c .before .before .before .before in
     (fits-listed 0 (accepted f .targets) (accepted f .fewOps) (omega arith), omega (arith, c .before .before .before .workspace-need .ensures))
 
--- src/converse.rt:79:1
 returns : tie.Need-returns
 returns c =
     let s = c .before .before .before .before .before .before .before .before .before .before .before .before .before in
@@ -62,19 +56,15 @@ returns c =
     (s .args .lens .now) (s .args .vals .now) (s .args .ws .now) (c .before .why .given .0 .0)
     (faulty-number (c .before .before .before .check-drawing .result) (c .before .why .given .0 .0) (c .before .before .before .check-drawing .ensures .refusal) (cc))
 
--- src/converse.rt:79:1
 same-length : tie.Need-same-length
 same-length c = search needs
 
--- src/converse.rt:79:1
 same-length-2 : tie.Need-same-length-2
 same-length-2 c = search needs
 
--- src/converse.rt:79:1
 same-length-3 : tie.Need-same-length-3
 same-length-3 c = search needs
 
--- src/converse.rt:79:1
 returns-2 : tie.Need-returns-2
 returns-2 c =
     let q = c .before .before .before .before .before .before in

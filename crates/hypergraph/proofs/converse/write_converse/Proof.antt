@@ -21,31 +21,25 @@ module _ (c : tie.Then1) where
   fits : (s .args .n ≤ length (s .args .lens .now)) × (length (s .args .vs .now) ≤ length (s .args .vals .now)) × (s .args .words ≤ length (s .args .ws .now))
   fits = rooms-three {need₁ = s .args .n} {room₁ = length (s .args .lens .now)} {need₂ = length (s .args .vs .now)} {room₂ = length (s .args .vals .now)} {words = s .args .words} {room = length (s .args .ws .now)} (c .if1 .taken)
 
--- src/converse.rt:47:9
 bincount-requires : tie.Need-bincount-requires
 bincount-requires c κs =
     let i = c .before in
     (s i .pre .0 .below, fits i .0, omega (arith, s i .pre .0 .few-values))
 
--- src/converse.rt:48:9
 write-entries-requires : tie.Need-write-entries-requires
 write-entries-requires c κs =
     let i = c .before .before .before .before .before .before in
     (s i .pre .0, (s i .pre .1, fits i .2, fits i .1))
 
--- src/converse.rt:33:1
 same-length : tie.Need-same-length
 same-length c = search needs
 
--- src/converse.rt:33:1
 same-length-2 : tie.Need-same-length-2
 same-length-2 c = search needs
 
--- src/converse.rt:33:1
 same-length-3 : tie.Need-same-length-3
 same-length-3 c = search needs
 
--- src/converse.rt:33:1
 returns : tie.Need-returns
 returns c =
     let e = c .before .before .before .before in
@@ -55,7 +49,6 @@ returns c =
     (s i .args .lens .now) (b .bincount .last .0) (s i .args .vals .now) (e .write-entries .last .1 .1 .1 .1 .1 .0) (s i .args .ws .now) (e .write-entries .last .0) (i .if1 .taken)
     (record { lengths = b .bincount .ensures ∙ rw (counts-lengths (s i .args .n) (s i .args .ls .now) (s i .args .vs .now) (s i .pre .0 .total)); entries = e .write-entries .ensures .0 }) (e .write-entries .ensures .1)
 
--- src/converse.rt:33:1
 returns-2 : tie.Need-returns-2
 returns-2 c =
     let s = c .before .before .before .before .before .before in

@@ -26,71 +26,55 @@ module _ (c : tie.After-converse) where
   long : length (c .converse .last .0) ≡ table
   long = c .converse .kept .0 ∙ length-take-le table (s .args .ws .now) (omega (arith, s .pre .1))
 
--- src/converse.rt:24:17
 add-items : tie.Need-add-items
 add-items c = search needs
 
--- src/converse.rt:26:17
 add-table : tie.Need-add-table
 add-table c = search needs
 
--- src/converse.rt:27:43
 slice-relend-prefix-converse : tie.Need-slice-relend-prefix-converse
 slice-relend-prefix-converse c = search needs
 
--- src/converse.rt:27:43
 slice-aggregate-converse : tie.Need-slice-aggregate-converse
 slice-aggregate-converse c = simp length-take (omega arith)
 
--- src/converse.rt:27:5
 converse-requires : tie.Need-converse-requires
 converse-requires c κs =
     let s = c .before .before .before .before .before in
     (s .pre .0, length-take-le (s .args .n + 1 + length (s .args .vs .now)) (s .args .ws .now) (omega (arith, s .pre .1)))
 
--- src/converse.rt:28:17
 slice-relend-prefix-copy : tie.Need-slice-relend-prefix-copy
 slice-relend-prefix-copy c = search needs
 
--- src/converse.rt:28:17
 slice-aggregate-copy : tie.Need-slice-aggregate-copy
 slice-aggregate-copy c = simp length-take (omega arith)
 
--- src/converse.rt:28:36
 mul-copy : tie.Need-mul-copy
 mul-copy c = search needs
 
--- src/converse.rt:28:36
 sub-copy : tie.Need-sub-copy
 sub-copy c = search needs
 
--- src/converse.rt:28:36
 part-copy-start : tie.Need-part-copy-start
 part-copy-start c = search needs
 
--- src/converse.rt:28:36
 part-copy-end : tie.Need-part-copy-end
 part-copy-end c = search needs
 
--- src/converse.rt:28:5
 copy-requires : tie.Need-copy-requires
 copy-requires c κs =
     let t = c .before .before .before .before .before in
     simp (length-take, length-drop, length-append) (omega (arith, long t, s t .pre .1))
 
--- src/converse.rt:29:5
 fill-requires : tie.Need-fill-requires
 fill-requires c κs = search needs
 
--- src/converse.rt:19:1
 same-length : tie.Need-same-length
 same-length c = search needs
 
--- src/converse.rt:19:1
 same-length-2 : tie.Need-same-length-2
 same-length-2 c = search needs
 
--- src/converse.rt:19:1
 returns : tie.Need-returns
 returns c =
     let y = c .before .before .before .before .before .before in

@@ -27,58 +27,45 @@ module _ (s : tie.Start) where
   abbrev q : ℕ
   q = targets + length (s .args .tv .now) - targets
 
--- src/lib.rt:70:17
 add-items : tie.Need-add-items
 add-items c = search needs
 
--- src/lib.rt:70:17
 add-items-2 : tie.Need-add-items-2
 add-items-2 c = search needs
 
--- src/lib.rt:71:19
 add-targets : tie.Need-add-targets
 add-targets c = search needs
 
--- src/lib.rt:72:15
 add-end : tie.Need-add-end
 add-end c = search needs
 
--- src/lib.rt:73:5
 offsets-requires : tie.Need-offsets-requires
 offsets-requires c κs = search needs
 
--- src/lib.rt:74:5
 place-requires : tie.Need-place-requires
 place-requires c κs =
     let s = c .before .before .before .before .before .before .before .before .before .before .before .before in
     let o = c .before .before .before .offsets in
     (sources-listed (d s) (length (s .args .w .now)) (accepted s) (accepted s .fewNodes), record { order = omega arith; room = omega (arith, o .kept .0, s .pre .1); ends = o .ensures .nodes })
 
--- src/lib.rt:75:17
 mul-copy : tie.Need-mul-copy
 mul-copy c = search needs
 
--- src/lib.rt:75:17
 sub-copy : tie.Need-sub-copy
 sub-copy c = search needs
 
--- src/lib.rt:75:17
 part-copy-start : tie.Need-part-copy-start
 part-copy-start c = search needs
 
--- src/lib.rt:75:17
 part-copy-end : tie.Need-part-copy-end
 part-copy-end c = search needs
 
--- src/lib.rt:75:5
 copy-requires : tie.Need-copy-requires
 copy-requires c κs = search needs
 
--- src/lib.rt:64:1
 same-length : tie.Need-same-length
 same-length c = search needs
 
--- src/lib.rt:64:1
 returns : tie.Need-returns
 returns c =
     let p = c .before .before .before .before .before .before in

@@ -35,45 +35,35 @@ module _ (c : tie.After-copy) where
         copied = c .copy .ensures;
       }
 
--- src/lib.rt:55:17
 add-first : tie.Need-add-first
 add-first c = search needs
 
--- src/lib.rt:56:17
 add-items : tie.Need-add-items
 add-items c = search needs
 
--- src/lib.rt:57:5
 fill-requires : tie.Need-fill-requires
 fill-requires c κs = search needs
 
--- src/lib.rt:58:17
 mul-copy : tie.Need-mul-copy
 mul-copy c = search needs
 
--- src/lib.rt:58:17
 sub-copy : tie.Need-sub-copy
 sub-copy c = search needs
 
--- src/lib.rt:58:17
 part-copy-start : tie.Need-part-copy-start
 part-copy-start c = search needs
 
--- src/lib.rt:58:17
 part-copy-end : tie.Need-part-copy-end
 part-copy-end c = search needs
 
--- src/lib.rt:58:5
 copy-requires : tie.Need-copy-requires
 copy-requires c κs = search needs
 
--- src/lib.rt:59:5
 count-values-requires : tie.Need-count-values-requires
 count-values-requires c κs =
     let b = c .before .before .before in
     ((s b .pre .0, omega (arith, y-long (lengths b), s b .pre .1 .room)), λ v h. omega (arith, y-nodes (lengths b) v (omega arith), s b .pre .1 .sums))
 
--- src/lib.rt:60:5
 running-requires : tie.Need-running-requires
 running-requires c κs =
     let d = c .before .before .before in
@@ -82,11 +72,9 @@ running-requires c κs =
       omega (arith, sum-ops (lengths b) (d .count-values .last .0) (d .count-values .ensures) (length (tl b)) (omega arith), sum-all (tl b), s b .pre .1 .sums),
     )
 
--- src/lib.rt:50:1
 same-length : tie.Need-same-length
 same-length c = search needs
 
--- src/lib.rt:50:1
 returns : tie.Need-returns
 returns c =
     let d = c .before .before .before .before .before .before in

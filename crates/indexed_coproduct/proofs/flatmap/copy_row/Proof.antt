@@ -25,83 +25,63 @@ module _ (s : tie.Start) where
   fits : s .args .at + (end - start) ≤ length (s .args .vals .now)
   fits = omega (arith, row-long (s .pre .0 .0) (s .args .j) (s .pre .0 .1), s .pre .1)
 
--- src/flatmap.rt:14:17
 mul-start : tie.Need-mul-start
 mul-start c = search needs
 
--- src/flatmap.rt:14:17
 shared-slice-read-start : tie.Need-shared-slice-read-start
 shared-slice-read-start c = search needs
 
--- src/flatmap.rt:14:17
 cast-start : tie.Need-cast-start
 cast-start c = omega (arith, c .shared-slice-known3 .given (c .before .before .before .before .args .j))
 
--- src/flatmap.rt:15:19
 add-end : tie.Need-add-end
 add-end c = search needs
 
--- src/flatmap.rt:15:15
 mul-end : tie.Need-mul-end
 mul-end c = search needs
 
--- src/flatmap.rt:15:15
 shared-slice-read-end : tie.Need-shared-slice-read-end
 shared-slice-read-end c = search needs
 
--- src/flatmap.rt:15:15
 cast-end : tie.Need-cast-end
 cast-end c = omega (arith, c .shared-slice-known4 .given (c .before .before .before .before .before .args .j + 1))
 
--- src/flatmap.rt:16:20
 sub-to : tie.Need-sub-to
 sub-to c = omega (arith, rises (c .before .before .before .before .before))
 
--- src/flatmap.rt:16:14
 add-to : tie.Need-add-to
 add-to c = omega (arith, fits (c .before .before .before .before .before))
 
--- src/flatmap.rt:17:17
 mul-copy : tie.Need-mul-copy
 mul-copy c = search needs
 
--- src/flatmap.rt:17:17
 sub-copy : tie.Need-sub-copy
 sub-copy c = search needs
 
--- src/flatmap.rt:17:17
 part-copy-start : tie.Need-part-copy-start
 part-copy-start c = search needs
 
--- src/flatmap.rt:17:17
 part-copy-end : tie.Need-part-copy-end
 part-copy-end c = omega (arith, fits (c .before .before .before .before .before))
 
--- src/flatmap.rt:17:36
 mul-copy-2 : tie.Need-mul-copy-2
 mul-copy-2 c = omega (arith, rises (c .before .before .before .before .before .before), within (c .before .before .before .before .before .before))
 
--- src/flatmap.rt:17:36
 sub-copy-2 : tie.Need-sub-copy-2
 sub-copy-2 c = omega (arith, rises (c .before .before .before .before .before .before), within (c .before .before .before .before .before .before))
 
--- src/flatmap.rt:17:36
 part-copy-start-2 : tie.Need-part-copy-start-2
 part-copy-start-2 c = omega (arith, rises (c .before .before .before .before .before .before), within (c .before .before .before .before .before .before))
 
--- src/flatmap.rt:17:36
 part-copy-end-2 : tie.Need-part-copy-end-2
 part-copy-end-2 c = omega (arith, rises (c .before .before .before .before .before .before), within (c .before .before .before .before .before .before))
 
--- src/flatmap.rt:17:5
 copy-requires : tie.Need-copy-requires
 copy-requires c κs = search needs
 
--- src/flatmap.rt:9:1
 same-length : tie.Need-same-length
 same-length c = search needs
 
--- src/flatmap.rt:9:1
 returns : tie.Need-returns
 returns c =
     let y = c .before .before in

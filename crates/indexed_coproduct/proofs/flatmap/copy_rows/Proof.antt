@@ -54,7 +54,6 @@ module _ (c : tie.In-loop Inv-loop μ-loop) where
   fits : c .before .loop .to + length (row x) ≤ length (c .before .loop .vals)
   fits = omega (arith, room, length-append (concat (map row (take p list))) (row x), c .before .loop .inv .1 .behind, put-long before (c .before .loop .inv .1))
 
--- src/flatmap.rt:29:5
 loop-holds : tie.Need-loop-holds Inv-loop μ-loop
 loop-holds c = (omega arith, put-nothing (c .before .before .before .before .args .at) (c .before .before .before .before .args .vals .now))
 
@@ -69,27 +68,22 @@ copy-row-requires c κs =
     let i = c .before .before in
     rw (c .before .row-at .ensures) ((s i .pre .0 .0, named i), fits i)
 
--- src/flatmap.rt:31:9
 add-p : tie.Need-add-p Inv-loop μ-loop
 add-p c = search needs
 
--- src/flatmap.rt:29:5
 loop-less : tie.Need-loop-less Inv-loop μ-loop
 loop-less c = search needs
 
--- src/flatmap.rt:29:5
 loop-again : tie.Need-loop-again Inv-loop μ-loop
 loop-again c =
     let i = c .before .before .before .before .before in
     (omega arith, rw (more i) (put-more (before i) (i .before .loop .inv .1) (rw (c .before .before .before .before .row-at .ensures) at (c .before .before .copy-row .ensures))))
 
--- src/flatmap.rt:22:1
 same-length : tie.Need-same-length Inv-loop μ-loop
 same-length c =
     let s = c .before .before .before .before .before .before in
     put-long (omega (arith, rows-within (rowOf (s .args .off .now) (s .args .rows .now)) (s .args .list .now) (c .before .loop .p), s .pre .1)) (c .before .loop .inv .1)
 
--- src/flatmap.rt:22:1
 returns : tie.Need-returns Inv-loop μ-loop
 returns c =
     let s = c .before .before .before .before .before .before in

@@ -85,100 +85,77 @@ module _ (c : tie.In-loop Inv-loop μ-loop) where
   all : rowEntries (rows s) (i + 1) ≡ rowEntries (rows s) i ++ new
   all = ap (rowEntries (rows s)) (add-one i) ∙ entries-suc (rows s) i ∙ ap (λ (r : List ℕ). rowEntries (rows s) i ++ r) (sym new-is)
 
--- src/flatmap.rt:52:5
 loop-holds : tie.Need-loop-holds Inv-loop μ-loop
 loop-holds c = (omega arith, refl, (λ j h. omega arith), (λ j h. refl), put-nothing 0 (c .before .before .before .before .before .before .args .vals .now))
 
--- src/flatmap.rt:53:21
 mul-start : tie.Need-mul-start Inv-loop μ-loop
 mul-start c = search needs
 
--- src/flatmap.rt:53:21
 shared-slice-read-start : tie.Need-shared-slice-read-start Inv-loop μ-loop
 shared-slice-read-start c = omega (arith, c .before .before .before .before .before .before .before .before .before .pre .0 .count)
 
--- src/flatmap.rt:53:21
 cast-start : tie.Need-cast-start Inv-loop μ-loop
 cast-start c = omega (arith, c .shared-slice-known5 .given (c .before .before .loop .i))
 
--- src/flatmap.rt:54:24
 add-end : tie.Need-add-end Inv-loop μ-loop
 add-end c = search needs
 
--- src/flatmap.rt:54:19
 mul-end : tie.Need-mul-end Inv-loop μ-loop
 mul-end c = omega (arith, c .before .before .before .before .before .before .before .before .before .pre .0 .count)
 
--- src/flatmap.rt:54:19
 shared-slice-read-end : tie.Need-shared-slice-read-end Inv-loop μ-loop
 shared-slice-read-end c = omega (arith, c .before .before .before .before .before .before .before .before .before .before .pre .0 .count)
 
--- src/flatmap.rt:54:19
 cast-end : tie.Need-cast-end Inv-loop μ-loop
 cast-end c = omega (arith, c .shared-slice-known6 .given (c .before .before .before .loop .i + 1))
 
--- src/flatmap.rt:55:28
 mul-copy-rows : tie.Need-mul-copy-rows Inv-loop μ-loop
 mul-copy-rows c = omega (arith, rises (c .before .before), within (c .before .before))
 
--- src/flatmap.rt:55:28
 sub-copy-rows : tie.Need-sub-copy-rows Inv-loop μ-loop
 sub-copy-rows c = omega (arith, rises (c .before .before), within (c .before .before))
 
--- src/flatmap.rt:55:28
 part-copy-rows-start : tie.Need-part-copy-rows-start Inv-loop μ-loop
 part-copy-rows-start c = omega (arith, rises (c .before .before), within (c .before .before))
 
--- src/flatmap.rt:55:28
 part-copy-rows-end : tie.Need-part-copy-rows-end Inv-loop μ-loop
 part-copy-rows-end c = omega (arith, rises (c .before .before), within (c .before .before))
 
--- src/flatmap.rt:55:13
 copy-rows-requires : tie.Need-copy-rows-requires Inv-loop μ-loop
 copy-rows-requires c κs =
     let i = c .before .before .before .before in
     ((s i .pre .0 .inner, named i), fits i)
 
--- src/flatmap.rt:56:20
 sub-lens : tie.Need-sub-lens Inv-loop μ-loop
 sub-lens c = omega (arith, c .before .before .copy-rows .ensures .behind)
 
--- src/flatmap.rt:56:19
 cast-lens : tie.Need-cast-lens Inv-loop μ-loop
 cast-lens c = omega (arith, c .before .before .copy-rows .ensures .behind, small (c .before .before .before .before .before .before .before))
 
--- src/flatmap.rt:56:9
 mul-lens : tie.Need-mul-lens Inv-loop μ-loop
 mul-lens c = search needs
 
--- src/flatmap.rt:56:9
 slice-write-lens : tie.Need-slice-write-lens Inv-loop μ-loop
 slice-write-lens c = omega (arith, c .before .before .before .before .before .before .before .before .before .before .before .before .before .before .before .pre .1 .0)
 
--- src/flatmap.rt:58:9
 add-i : tie.Need-add-i Inv-loop μ-loop
 add-i c = search needs
 
--- src/flatmap.rt:52:5
 loop-less : tie.Need-loop-less Inv-loop μ-loop
 loop-less c = search needs
 
--- src/flatmap.rt:52:5
 loop-again : tie.Need-loop-again Inv-loop μ-loop
 loop-again c =
     let t = c .before .before .before .before .before .before .before in
     let r = c .before .before .copy-rows in
     (omega arith, simp length-set (t .before .loop .inv .1), passed t (r .result - t .before .loop .at) (omega (arith, r .ensures .behind)), rest t (r .result - t .before .loop .at), rw (all t) (put-more (before t) (t .before .loop .inv .4) (r .ensures)))
 
--- src/flatmap.rt:37:1
 same-length : tie.Need-same-length Inv-loop μ-loop
 same-length c = c .before .loop .inv .1
 
--- src/flatmap.rt:37:1
 same-length-2 : tie.Need-same-length-2 Inv-loop μ-loop
 same-length-2 c = put-long (omega (arith, most (c .before .before .before .before .before .before .before .before) (c .before .loop .i) (omega arith))) (c .before .loop .inv .4)
 
--- src/flatmap.rt:37:1
 returns : tie.Need-returns Inv-loop μ-loop
 returns c =
     let s = c .before .before .before .before .before .before .before .before in

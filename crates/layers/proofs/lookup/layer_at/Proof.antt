@@ -46,63 +46,48 @@ module _ (c : tie.Then1) where
   low : i o < length (ops o)
   low = ltb-true (i o) (length (ops o)) ((both (sound (ops o) (offs o)) (ltb (i o) (length (ops o))) holds) .1)
 
--- src/lookup.rt:35:8
 offsets-sound-requires : tie.Need-offsets-sound-requires
 offsets-sound-requires c κs = search needs
 
--- src/lookup.rt:36:21
 mul-start : tie.Need-mul-start
 mul-start c = omega (arith, low c, facts c .long)
 
--- src/lookup.rt:36:21
 shared-slice-read-start : tie.Need-shared-slice-read-start
 shared-slice-read-start c = omega (arith, low (c .before), facts (c .before) .long)
 
--- src/lookup.rt:36:21
 cast-start : tie.Need-cast-start
 cast-start c = omega (arith, c .shared-slice-known3 .given (i (o (c .before))))
 
--- src/lookup.rt:37:27
 add-end : tie.Need-add-end
 add-end c = omega (arith, low (c .before))
 
--- src/lookup.rt:37:19
 mul-end : tie.Need-mul-end
 mul-end c = omega (arith, low (c .before), facts (c .before) .long)
 
--- src/lookup.rt:37:19
 shared-slice-read-end : tie.Need-shared-slice-read-end
 shared-slice-read-end c = omega (arith, low (c .before .before), facts (c .before .before) .long)
 
--- src/lookup.rt:37:19
 cast-end : tie.Need-cast-end
 cast-end c = omega (arith, c .shared-slice-known4 .given (i (o (c .before .before)) + 1))
 
--- src/lookup.rt:38:16
 mul-result : tie.Need-mul-result
 mul-result c = omega (arith, part-starts (facts (c .before .before)) (i (o (c .before .before))) (low (c .before .before)), part-ends (facts (c .before .before)) (i (o (c .before .before))) (low (c .before .before)))
 
--- src/lookup.rt:38:16
 sub-result : tie.Need-sub-result
 sub-result c = part-starts (facts (c .before .before)) (i (o (c .before .before))) (low (c .before .before))
 
--- src/lookup.rt:38:16
 part-result-start : tie.Need-part-result-start
 part-result-start c = part-starts (facts (c .before .before)) (i (o (c .before .before))) (low (c .before .before))
 
--- src/lookup.rt:38:16
 part-result-end : tie.Need-part-result-end
 part-result-end c = part-ends (facts (c .before .before)) (i (o (c .before .before))) (low (c .before .before))
 
--- src/lookup.rt:38:9
 returns : tie.Need-returns
 returns c = let k = o (c .before .before .before) in layer-there (ops k) (offs k) (i k) (holds (c .before .before .before))
 
--- src/lookup.rt:40:5
 slice-aggregate-result : tie.Need-slice-aggregate-result
 slice-aggregate-result c = search needs
 
--- src/lookup.rt:32:1
 returns-2 : tie.Need-returns-2
 returns-2 c = let k = c .before .before in layer-none (ops k) (offs k) (i k) (sym (same k) ∙ c .before .if1 .left)
 

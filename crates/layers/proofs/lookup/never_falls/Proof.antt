@@ -16,51 +16,39 @@ Inv-loop list i₀ i = (i ≤ length list) × (rising list ≡ rising (drop i li
 abbrev μ-loop : tie.MeasureT-loop
 μ-loop list i₀ i = length list - i
 
--- src/lookup.rt:11:5
 loop-holds : tie.Need-loop-holds Inv-loop μ-loop
 loop-holds c = search needs
 
--- src/lookup.rt:11:11
 add-loop : tie.Need-add-loop Inv-loop μ-loop
 add-loop c = search needs
 
--- src/lookup.rt:12:17
 add-if1 : tie.Need-add-if1 Inv-loop μ-loop
 add-if1 c = search needs
 
--- src/lookup.rt:12:12
 mul-if1 : tie.Need-mul-if1 Inv-loop μ-loop
 mul-if1 c = search needs
 
--- src/lookup.rt:12:12
 shared-slice-read-if1 : tie.Need-shared-slice-read-if1 Inv-loop μ-loop
 shared-slice-read-if1 c = search needs
 
--- src/lookup.rt:12:26
 mul-if1-2 : tie.Need-mul-if1-2 Inv-loop μ-loop
 mul-if1-2 c = search needs
 
--- src/lookup.rt:12:26
 shared-slice-read-if1-2 : tie.Need-shared-slice-read-if1-2 Inv-loop μ-loop
 shared-slice-read-if1-2 c = search needs
 
--- src/lookup.rt:13:13
 returns : tie.Need-returns Inv-loop μ-loop
 returns c = let l = c .before .before .before .before in let a = c .before .before .before .before .before .args .list .now in sym (l .loop .inv .1 ∙ rising-not a (l .loop .i) (c .before .before .before .loop-test .taken) (c .if1 .taken))
 
--- src/lookup.rt:15:9
 add-i : tie.Need-add-i Inv-loop μ-loop
 add-i c = search needs
 
--- src/lookup.rt:11:5
 loop-less : tie.Need-loop-less Inv-loop μ-loop
 loop-less c = search needs
 
--- src/lookup.rt:11:5
 loop-again : tie.Need-loop-again Inv-loop μ-loop
 loop-again c = let l = c .before .before .before .before in let a = c .before .before .before .before .before .args .list .now in (omega arith, l .loop .inv .1 ∙ rising-more a (l .loop .i) (c .before .before .before .loop-test .taken) (c .if1 .left))
 
--- src/lookup.rt:7:1
 returns-2 : tie.Need-returns-2 Inv-loop μ-loop
 returns-2 c = let a = c .before .before .args .list .now in sym (c .before .loop .inv .1 ∙ rising-end a (c .before .loop .i) (c .loop-test .left))
 

@@ -8,35 +8,27 @@ use Rattle.layers.proofs.lookup.offsets_sound.Reads as reads
 use Rattle.layers.proofs.lookup.offsets_sound.Lts as lts
 use Rattle.layers.proofs.lookup.never_falls.Reads as never-falls-reads
 
--- src/lookup.rt:25:25
 add-if1 : tie.Need-add-if1
 add-if1 c = search needs
 
--- src/lookup.rt:26:9
 returns : tie.Need-returns
 returns c = let s = c .before .before .before in sound-not (s .args .operations .now) (s .args .offsets .now) (c .if1 .taken)
 
--- src/lookup.rt:28:6
 shared-slice-read-result : tie.Need-shared-slice-read-result
 shared-slice-read-result c = search needs
 
--- src/lookup.rt:28:25
 never-falls-requires : tie.Need-never-falls-requires
 never-falls-requires c κs = search needs
 
--- src/lookup.rt:28:49
 mul-result : tie.Need-mul-result
 mul-result c = search needs
 
--- src/lookup.rt:28:49
 shared-slice-read-result-2 : tie.Need-shared-slice-read-result-2
 shared-slice-read-result-2 c = search needs
 
--- src/lookup.rt:28:49
 cast-result : tie.Need-cast-result
 cast-result c = let s = c .before .before .before .before .before .before in omega (arith, c .shared-slice-known4 .given (length (s .args .operations .now)))
 
--- src/lookup.rt:21:1
 returns-2 : tie.Need-returns-2
 returns-2 c = let s = c .before .before .before .before .before .before in sound-tested (s .args .operations .now) (s .args .offsets .now) (c .before .never-falls .result) (c .before .before .before .if1 .left) (c .before .never-falls .ensures)
 
