@@ -3,7 +3,7 @@
 //
 // A line that begins with # is a title; it is written again. Each other line is numbers, each with a byte behind it that is no digit:
 //
-//     call                            1 to 18, in the order of calls.rt
+//     call                            1 to 18, as call.rt numbers them
 //     wd xd layer                     the maps' declared targets; the layer for layer_at
 //     room room room workspace        how many words are lent of each output and of workspace
 //     w x sl sv tl tv                 six lists: the drawing (the maps' target)
