@@ -220,8 +220,9 @@ fn plain(answer: Result<(), Refusal>) -> String {
 fn line(asked: Asked, entries: usize) -> String {
     match asked {
         Err(fault) => format!("but {fault}"),
+        Ok(Err(refusal)) if refusal.number() < 13 => refused(refusal),
+        Ok(_) if entries > MOST_ENTRIES => "too large".to_string(), // 13 and 14 are found behind the adjacency
         Ok(Err(refusal)) => refused(refusal),
-        Ok(Ok(_)) if entries > MOST_ENTRIES => "too large".to_string(),
         Ok(Ok(Answer { verdict: Some(true), .. })) => "yes".to_string(),
         Ok(Ok(Answer { verdict: Some(false), .. })) => "no".to_string(),
         Ok(Ok(Answer { lists, .. })) => {
