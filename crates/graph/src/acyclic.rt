@@ -8,7 +8,28 @@ ghost use lib.ListN.{length};
 ghost use Rattle.rules.specs.Drawing.{Accepted, drawing};
 ghost use Rattle.rules.specs.Promises.{IsAcyclic};
 ghost use Rattle.rules.specs.Refusals.{workspaceNeed};
-ghost use Rattle.rules.specs.Inner.Acyclic.{Decided};
+ghost use Rattle.rules.specs.Inner.Acyclic.{Told, Decided};
+
+// Walks the incidence graph, in W words of workspace: how many nodes and operations are placed. Behind the table, degrees and depths tell of
+// each operation.
+pub fn walk(
+    ws: &mut [u32],
+    w: &[u32],
+    x: &[u32],
+    sl: &[u32],
+    sv: &[u32],
+    tl: &[u32],
+    tv: &[u32],
+) -> usize
+    requires { ⌜ Accepted (drawing (now w) (now x) (now sl) (now sv) (now tl) (now tv)) ⌝ }
+    requires { ⌜ length (now ws) ≡ workspaceNeed (drawing (now w) (now x) (now sl) (now sv) (now tl) (now tv)) ⌝ }
+    ensures { λ r. ⌜ Told (drawing (now (w .entry)) (now (x .entry)) (now (sl .entry)) (now (sv .entry)) (now (tl .entry)) (now (tv .entry))) (now (ws .exit)) r ⌝ }
+{
+    let items = w.len() + x.len();
+    let table = items + 1 + sv.len() + tv.len();
+    hypergraph::incidence::incidence(&mut ws[..table], w, x, sl, sv, tl, tv);
+    kahn(ws, items, table)
+}
 
 // Decides, in W words of workspace, and clears them.
 fn decide(
@@ -25,9 +46,7 @@ fn decide(
     ensures { λ r. ⌜ Decided (drawing (now (w .entry)) (now (x .entry)) (now (sl .entry)) (now (sv .entry)) (now (tl .entry)) (now (tv .entry))) (now (ws .exit)) r ⌝ }
 {
     let items = w.len() + x.len();
-    let table = items + 1 + sv.len() + tv.len();
-    hypergraph::incidence::incidence(&mut ws[..table], w, x, sl, sv, tl, tv);
-    let placed = kahn(ws, items, table);
+    let placed = walk(ws, w, x, sl, sv, tl, tv);
     let all = ws.len();
     array::fill(ws, all, 0);
     placed == items
@@ -48,7 +67,7 @@ pub fn is_acyclic(
     match hypergraph::check::check_drawing(w, x, sl, sv, tl, tv) {
         Done::Faulty(why) => Verdict::Refused(why),
         Done::Fine => {
-            let words = 8 * (w.len() + x.len()) + 2 * (sv.len() + tv.len()) + 8;
+            let words = hypergraph::check::workspace_need(w, x, sl, sv, tl, tv);
             if ws.len() < words {
                 return Verdict::Refused(Refusal::ShortRoom);
             }

@@ -5,7 +5,7 @@ use rules::Done;
 use rules::Refusal;
 ghost use Prim.Native.Nat.{_+_, _≤_};
 ghost use mathlib.Core.Path.{_≡_};
-ghost use lib.ListN.{length};
+ghost use lib.ListN.{length, take};
 ghost use Rattle.rules.specs.Lists.{rowEntries};
 ghost use Rattle.rules.specs.Drawing.{drawing};
 ghost use Rattle.rules.specs.Analysis.{converse};
@@ -13,18 +13,26 @@ ghost use Rattle.rules.specs.Promises.{WritesRows, SourceConverse, TargetConver
 ghost use Rattle.rules.specs.Inner.Loops.{Listed};
 ghost use Rattle.rules.specs.Inner.Rooms.{roomsRefusal};
 ghost use Rattle.rules.specs.Inner.Rows.{putAt};
-ghost use Rattle.rules.specs.Inner.Words.{filled};
+ghost use Rattle.rules.specs.Inner.Words.{counts, filled};
 
 // The entries of the converse of the lists ls, vs are written. Its table stands in the front of the workspace, which is cleared.
-fn write_entries(ws: &mut [u32], words: usize, n: usize, ls: &[u32], vs: &[u32], vals: &mut [u32])
-    requires { ⌜ Listed n 0 (now ls) (now vs) ⌝ }
+fn write_entries(
+    ws: &mut [u32],
+    words: usize,
+    n: usize,
+    lens: &[u32],
+    ls: &[u32],
+    vs: &[u32],
+    vals: &mut [u32],
+)
+    requires { ⌜ Listed n 0 (now ls) (now vs) × (n ≤ length (now lens)) × (take n (now lens) ≡ counts n (now vs)) ⌝ }
     requires { ⌜ (n + 1 + length (now vs) ≤ words) × (words ≤ length (now ws)) × (length (now vs) ≤ length (now vals)) ⌝ }
     ensures { λ _. ⌜ (now (vals .exit) ≡ putAt 0 (rowEntries (converse (now (ls .entry)) (now (vs .entry))) n) (now (vals .entry))) × (now (ws .exit) ≡ filled words 0 (now (ws .entry))) ⌝ }
 {
     let items = n + 1;
     let size = vs.len();
     let table = items + size;
-    indexed_coproduct::converse::converse(&mut ws[..table], n, ls, vs);
+    indexed_coproduct::converse::converse_counted(&mut ws[..table], n, lens, ls, vs);
     array::copy(&mut vals[..size], &ws[items..table]);
     array::fill(ws, words, 0);
 }
@@ -45,7 +53,7 @@ fn write_converse(
 {
     if (n <= lens.len()) & (vs.len() <= vals.len()) & (words <= ws.len()) {
         array::bincount(lens, n, vs);
-        write_entries(ws, words, n, ls, vs, vals);
+        write_entries(ws, words, n, &lens[..], ls, vs, vals);
         Done::Fine
     } else {
         Done::Faulty(Refusal::ShortRoom)

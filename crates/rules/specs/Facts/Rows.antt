@@ -166,3 +166,7 @@ counts-put n l t z t' h low clear c =
     put-each (λ v. count v l) n t t' h (c .long ∙ ap length clear ∙ filled-long n 0 t h)
     (λ v b. omega (arith, c .each v, ap (λ (y : List ℕ). getD y v 0) clear ∙ filled-front n 0 t v b))
     (λ v b. omega (arith, c .each v, ap (λ (y : List ℕ). getD y v 0) clear ∙ filled-rest n 0 t v b, count-above l n v low b))
+
+-- and they stand in front
+pub counts-front : (n : ℕ) (l t t' : List ℕ) → t' ≡ putAt 0 (counts n l) t → take n t' ≡ counts n l
+counts-front n l t t' e = rw (e, put-front (counts n l) t) (take-at (counts n l) (drop (length (counts n l)) t) n (length-map (range n) (λ v. count v l) ∙ range-length n))

@@ -1,5 +1,5 @@
 -- The promise of a call that writes rows, at each of its returns.
-use Prim.Native.Nat.{ℕ, _+_, _-_, _≤_}
+use Prim.Native.Nat.{ℕ, _+_, _-_, _≤_, _<_, _^_}
 use native.Mathlib.Omega.{arith}
 use mathlib.Core.Bool.{Bool, true, false, _&&_}
 use mathlib.Core.List.{List, [], _∷_, _++_, append-nil}
@@ -8,13 +8,15 @@ use lib.ListN.{drop-of-length-le, length, drop, replicate}
 use lib.Seq.{drop-append-add, drop-drop}
 use lib.Dec.{leb}
 use borrow.Author.Tests.{leb-true}
-use Rattle.rules.specs.Lists.{rowLengths, rowEntries}
+use Rattle.rules.specs.Lists.{sum, rowLengths, rowEntries}
 use Rattle.rules.specs.declared.Done.{Done}
 use Rattle.rules.specs.declared.Done.the-variants.{Fine, Faulty}
 use Rattle.rules.specs.declared.Refusal.{Refusal}
 use Rattle.rules.specs.declared.Refusal.the-variants.{ShortRoom}
 use Rattle.rules.specs.Inner.Rooms.{roomsFit, roomsRefusal}
-use Rattle.rules.specs.Drawing.{Drawing}
+use Rattle.rules.specs.Drawing.{Drawing, Accepted, nodeCount}
+use Rattle.rules.specs.Inner.Loops.{Listed}
+use Rattle.rules.specs.Facts.Incident.{sources-listed}
 use Rattle.rules.specs.Refusals.{firstOf, unless, shortRoom, workspaceNeed, within, badLengths, number, badValue}
 use Rattle.rules.specs.Inner.Words.{filled}
 use Rattle.rules.specs.Promises.{WritesRows}
@@ -50,6 +52,11 @@ front-cleared k words t ws h l = ap (λ (r : List ℕ). replicate words 0 ++ r) 
 -- all words cleared, of a part of them that was lent
 pub all-cleared : (words : ℕ) (ws ws' : List ℕ) → length ws ≡ words → ws' ≡ filled (length ws) 0 ws → ws' ≡ replicate words 0
 all-cleared words ws ws' h c = c ∙ rw (drop-of-length-le ws {i = length ws} (omega arith), h) (append-nil (replicate words 0))
+
+-- what the tables of the adjacencies need, in W words
+pub tables-need : (d : Drawing) (ws : List ℕ) → Accepted d → length ws ≡ workspaceNeed d
+    → (Listed (nodeCount d) 0 (d .sourceLengths) (d .sourceValues) × (sum (d .targetLengths) < 2 ^ 32)) × (nodeCount d + 1 + length (d .sourceValues) + (length (d .targetLengths) + 1) ≤ length ws)
+tables-need d ws a h = ((sources-listed d 0 a (omega arith), omega (arith, a .targets .total, a .targets .room)), omega (arith, h, a .targets .count))
 
 -- the rooms are looked at
 module _ (rows : ℕ → List ℕ) (k need₁ room₁ need₂ room₂ words room : ℕ) (lens lens' vals vals' ws ws' : List ℕ) where
@@ -96,3 +103,8 @@ module _ (d : Drawing) (rows : ℕ → List ℕ) (k need₁ room₁ need₂ room
       → WritesRows rows k (roomsRefusal need₁ room₁ need room₂ words room) words lens lens' vals vals' ws ws' r
       → WritesRows rows k (twoOutputsRefusal d need₁ room₁ need₂ room₂ room) (workspaceNeed d) lens lens' vals vals' ws ws' r
   rows-sized words need e p q h = rows-fine e (rw (p, q) at h)
+
+  -- a room is too short
+  pub rows-refused : (words need : ℕ) → drawingRefusal d ≡ 0 → words ≡ workspaceNeed d → need ≡ need₂ → roomsFit need₁ room₁ need room₂ words room ≡ false
+      → WritesRows rows k (twoOutputsRefusal d need₁ room₁ need₂ room₂ room) (workspaceNeed d) lens lens vals vals ws ws (Faulty ShortRoom)
+  rows-refused words need e p q f = rows-sized words need e p q (rows-short rows k need₁ room₁ need room₂ words room lens lens vals vals ws ws f)

@@ -4,6 +4,8 @@ use mathlib.Core.List.{List, map, _++_}
 use mathlib.Core.Path.{_≡_}
 use lib.ListN.{length, getD, take, drop}
 use Rattle.rules.specs.Analysis.{converse}
+use Rattle.rules.specs.Inner.Loops.{Listed}
+use Rattle.rules.specs.Inner.Words.{count}
 use Rattle.rules.specs.Lists.{_∈_, sum, seg, concat, rowLengths, rowEntries}
 
 -- row i: the entries between two offsets
@@ -24,6 +26,12 @@ pub record Tabled (rows : ℕ → List ℕ) (k : ℕ) (off vals : List ℕ) : Ty
 -- t is the table of a converse: n + 1 offsets, then the entries
 abbrev pub ConverseTable : ℕ → List ℕ → List ℕ → List ℕ → Type 0
 ConverseTable n lens vals t = Tabled (converse lens vals) n (take (n + 1) t) (drop (n + 1) t)
+
+-- t is to become that table: in its first n + 1 words stands how often each number is listed
+pub record Tallied (n : ℕ) (lens vals t : List ℕ) : Type 0 where
+  pub listed : Listed n 0 lens vals
+  pub long : length t ≡ n + 1 + length vals
+  pub each : (v : ℕ) → v ≤ n → getD t v 0 ≡ count v vals
 
 -- the offsets of lists that are given by their lengths
 pub record Starts (lens off : List ℕ) : Type 0 where

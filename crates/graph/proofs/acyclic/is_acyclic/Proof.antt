@@ -1,10 +1,9 @@
-use Prim.Native.Nat.{_≤_}
-use mathlib.Core.Path.{_≡_}
+use Prim.Native.Nat.{ℕ}
+use mathlib.Core.Path.{_≡_, _∙_}
 use native.Mathlib.Omega.{arith}
-use lib.ListN.{length, length-take}
+use lib.ListN.{length-take}
 use lib.Seq.{length-take-le}
 use Rattle.rules.specs.Drawing.{Drawing, drawing, Accepted}
-use Rattle.rules.specs.Refusals.{workspaceNeed}
 use Rattle.rules.specs.Calls.{drawingRefusal}
 use Rattle.rules.specs.Facts.Accepts.{accepted-iff}
 use Rattle.rules.specs.Facts.Refusing.{fine-none, faulty-number}
@@ -16,6 +15,7 @@ use Rattle.graph.proofs.acyclic.is_acyclic.Reads as reads
 use Rattle.graph.proofs.acyclic.is_acyclic.Lts as lts
 use Rattle.graph.proofs.acyclic.decide.Reads as decide-reads
 use Rattle.hypergraph.proofs.check.check_drawing.Reads as check-drawing-reads
+use Rattle.hypergraph.proofs.check.workspace_need.Reads as workspace-need-reads
 
 module _ (s : tie.Start) where
   abbrev d : Drawing
@@ -32,10 +32,10 @@ module _ (c : tie.After-enum-told) where
   accepted : Accepted (d s)
   accepted = (accepted-iff (d s)) .0 fine
 
--- and the room is enough
-module _ (c : tie.Else1) where
-  enough : workspaceNeed (d (s (c .before))) ≤ length (s (c .before) .args .ws .now)
-  enough = c .if1 .left
+-- and W is known
+module _ (c : tie.After-workspace-need) where
+  abbrev words : ℕ
+  words = c .workspace-need .result
 
 check-drawing-requires : tie.Need-check-drawing-requires
 check-drawing-requires c κs = search needs
@@ -46,26 +46,13 @@ enum-known-why c = search needs
 enum-told : tie.Need-enum-told
 enum-told c = search needs
 
-add-words : tie.Need-add-words
-add-words c = search needs
-
-mul-words : tie.Need-mul-words
-mul-words c = let a = accepted c in omega (arith, a .fewNodes, a .fewOps)
-
-add-words-2 : tie.Need-add-words-2
-add-words-2 c = search needs
-
-mul-words-2 : tie.Need-mul-words-2
-mul-words-2 c = search needs
-
-add-words-3 : tie.Need-add-words-3
-add-words-3 c = let a = accepted c in omega (arith, a .fewNodes, a .fewOps, a .sources .room, a .targets .room)
-
-add-words-4 : tie.Need-add-words-4
-add-words-4 c = let a = accepted c in omega (arith, a .fewNodes, a .fewOps, a .sources .room, a .targets .room)
+workspace-need-requires : tie.Need-workspace-need-requires
+workspace-need-requires c κs = accepted c
 
 returns : tie.Need-returns
-returns c = acyclic-short (d (s (c .before))) (s (c .before) .args .ws .now) (fine (c .before)) (c .if1 .taken)
+returns c =
+    let f = c .before .before in
+    acyclic-short (d (s f)) (s f .args .ws .now) (words (c .before)) (c .before .workspace-need .ensures) (fine f) (c .if1 .taken)
 
 slice-relend-prefix-decide : tie.Need-slice-relend-prefix-decide
 slice-relend-prefix-decide c = search needs
@@ -74,7 +61,10 @@ slice-aggregate-decide : tie.Need-slice-aggregate-decide
 slice-aggregate-decide c = simp length-take (omega arith)
 
 decide-requires : tie.Need-decide-requires
-decide-requires c κs = let f = c .before .before in (accepted f, length-take-le (workspaceNeed (d (s f))) (s f .args .ws .now) (enough (c .before)))
+decide-requires c κs =
+    let k = c .before .before in
+    let f = k .before in
+    (accepted f, length-take-le (words k) (s f .args .ws .now) (c .before .if1 .left) ∙ k .workspace-need .ensures)
 
 returns-2 : tie.Need-returns-2
 returns-2 c = let s = c .before .before .before .before .before .before .before .before .before .before .before in acyclic-faulty (d s) (s .args .ws .now) (c .before .why .given .0 .0) (faulty-number (c .before .before .before .check-drawing .result) (c .before .why .given .0 .0) (c .before .before .before .check-drawing .ensures .refusal) (cc))
@@ -85,8 +75,9 @@ same-length c = search needs
 returns-3 : tie.Need-returns-3
 returns-3 c =
     let e = c .before .before .before .before .before in
-    let f = e .before in
-    rw (c .if2 .taken) at (acyclic-decided (d (s f)) (s f .args .ws .now) (c .before .before .before .decide .last .0) (c .before .before .before .decide .result) (fine f) (enough e) (c .before .before .before .decide .ensures))
+    let k = e .before in
+    let f = k .before in
+    rw (c .if2 .taken) at (acyclic-decided (d (s f)) (s f .args .ws .now) (words k) (k .workspace-need .ensures) (c .before .before .before .decide .last .0) (c .before .before .before .decide .result) (fine f) (e .if1 .left) (c .before .before .before .decide .ensures))
 
 same-length-2 : tie.Need-same-length-2
 same-length-2 c = search needs
@@ -94,8 +85,9 @@ same-length-2 c = search needs
 returns-4 : tie.Need-returns-4
 returns-4 c =
     let e = c .before .before .before .before .before in
-    let f = e .before in
-    rw (c .if2 .left) at (acyclic-decided (d (s f)) (s f .args .ws .now) (c .before .before .before .decide .last .0) (c .before .before .before .decide .result) (fine f) (enough e) (c .before .before .before .decide .ensures))
+    let k = e .before in
+    let f = k .before in
+    rw (c .if2 .left) at (acyclic-decided (d (s f)) (s f .args .ws .now) (words k) (k .workspace-need .ensures) (c .before .before .before .decide .last .0) (c .before .before .before .decide .result) (fine f) (e .if1 .left) (c .before .before .before .decide .ensures))
 
 pub is-acyclic-spec : {M : Type 1} → statement M
 is-acyclic-spec =
@@ -104,12 +96,7 @@ is-acyclic-spec =
     check-drawing-requires
     enum-known-why
     enum-told
-    add-words
-    mul-words
-    add-words-2
-    mul-words-2
-    add-words-3
-    add-words-4
+    workspace-need-requires
     returns
     slice-relend-prefix-decide
     slice-aggregate-decide

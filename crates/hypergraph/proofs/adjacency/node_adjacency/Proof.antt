@@ -15,7 +15,7 @@ use Rattle.hypergraph.proofs.adjacency.write_nodes.Reads as write-nodes
 use Rattle.hypergraph.proofs.check.workspace_need.Reads as workspace-need-reads
 use Rattle.rules.specs.Drawing.{Drawing, Accepted, drawing}
 use Rattle.rules.specs.Analysis.{nodeNext}
-use Rattle.rules.specs.Facts.RowsCalls.{rows-faulty, rows-sized, rooms-three, rows-done, rows-short}
+use Rattle.rules.specs.Facts.RowsCalls.{rows-faulty, rows-sized, rooms-three, rows-done, rows-refused}
 use Rattle.rules.specs.Calls.{drawingRefusal}
 use Rattle.rules.specs.Lists.{rowEntries}
 use Rattle.rules.specs.Facts.Sizes.{unsized-number, sized-none}
@@ -115,11 +115,7 @@ returns-2 c =
 returns-3 : tie.Need-returns-3
 returns-3 c =
     let f = c .before .before in
-    let s = s f in
-    rows-sized (d s) (rows s) (k s) (k s) (length (s .args .lens .now)) (length (rowEntries (rows s) (k s))) (length (s .args .vals .now)) (length (s .args .ws .now))
-    (s .args .lens .now) (s .args .vals .now) (s .args .ws .now) (c .before .workspace-need .result) (size f) (fine f) (c .before .workspace-need .ensures) (size-is f)
-    (rows-short (rows s) (k s) (k s) (length (s .args .lens .now)) (size f) (length (s .args .vals .now)) (c .before .workspace-need .result) (length (s .args .ws .now))
-    (s .args .lens .now) (s .args .lens .now) (s .args .vals .now) (s .args .vals .now) (s .args .ws .now) (s .args .ws .now) (c .if1 .left))
+    rows-refused (d (s f)) (rows (s f)) (k (s f)) (k (s f)) (length (s f .args .lens .now)) (length (rowEntries (rows (s f)) (k (s f)))) (length (s f .args .vals .now)) (length (s f .args .ws .now)) (s f .args .lens .now) (s f .args .vals .now) (s f .args .ws .now) (c .before .workspace-need .result) (size f) (fine f) (c .before .workspace-need .ensures) (size-is f) (c .if1 .left)
 
 pub node-adjacency-spec : {M : Type 1} → statement M
 node-adjacency-spec =

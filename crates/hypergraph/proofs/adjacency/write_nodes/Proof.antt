@@ -1,4 +1,3 @@
-use native.Mathlib.Omega.{arith}
 use lib.ListN.{length}
 use borrow.Author.Needs.{needs}
 use Rattle.hypergraph.proofs.adjacency.write_nodes.Statement.{statement}
@@ -9,8 +8,7 @@ use Rattle.array.proofs.fill.Reads as fill-reads
 use Rattle.hypergraph.proofs.adjacency.join_nodes.Reads as join-nodes-reads
 use Rattle.hypergraph.proofs.adjacency.tables.Reads as tables-reads
 use Rattle.rules.specs.Drawing.{Drawing, drawing}
-use Rattle.rules.specs.Facts.RowsCalls.{all-cleared}
-use Rattle.rules.specs.Facts.Incident.{sources-listed}
+use Rattle.rules.specs.Facts.RowsCalls.{all-cleared, tables-need}
 
 module _ (s : tie.Start) where
   abbrev d : Drawing
@@ -19,8 +17,7 @@ module _ (s : tie.Start) where
 tables-requires : tie.Need-tables-requires
 tables-requires c κs =
     let s = c .before .before .before .before .before .before .before .before .before .before in
-    let a = s .pre .0 in
-    ((sources-listed (d s) 0 a (omega arith), omega (arith, a .targets .total, a .targets .room)), omega (arith, s .pre .1 .0, a .targets .count))
+    tables-need (d s) (s .args .ws .now) (s .pre .0) (s .pre .1 .0)
 
 join-nodes-requires : tie.Need-join-nodes-requires
 join-nodes-requires c κs = search needs

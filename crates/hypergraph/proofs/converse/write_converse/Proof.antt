@@ -12,6 +12,7 @@ use Rattle.array.proofs.bincount.Reads as bincount-reads
 use Rattle.hypergraph.proofs.converse.write_entries.Reads as write-entries-reads
 use Rattle.rules.specs.Facts.RowsCalls.{rows-short, rooms-three, rows-done}
 use Rattle.rules.specs.Facts.ConverseTable.{counts-lengths}
+use Rattle.rules.specs.Facts.Rows.{counts-front}
 
 -- the rooms fit
 module _ (c : tie.Then1) where
@@ -28,8 +29,9 @@ bincount-requires c κs =
 
 write-entries-requires : tie.Need-write-entries-requires
 write-entries-requires c κs =
-    let i = c .before .before .before .before .before .before in
-    (s i .pre .0, (s i .pre .1, fits i .2, fits i .1))
+    let b = c .before .before .before .before .before in
+    let i = b .before .before in
+    ((s i .pre .0, omega (arith, b .bincount .kept .0, fits i .0), counts-front (s i .args .n) (s i .args .vs .now) (s i .args .lens .now) (b .bincount .last .0) (b .bincount .ensures)), (s i .pre .1, fits i .2, fits i .1))
 
 same-length : tie.Need-same-length
 same-length c = search needs
@@ -43,10 +45,10 @@ same-length-3 c = search needs
 returns : tie.Need-returns
 returns c =
     let e = c .before .before .before .before in
-    let b = e .before .before .before .before .before in
+    let b = e .before .before .before .before .before .before in
     let i = b .before .before in
     rows-done (converse (s i .args .ls .now) (s i .args .vs .now)) (s i .args .n) (s i .args .n) (length (s i .args .lens .now)) (length (s i .args .vs .now)) (length (s i .args .vals .now)) (s i .args .words) (length (s i .args .ws .now))
-    (s i .args .lens .now) (b .bincount .last .0) (s i .args .vals .now) (e .write-entries .last .1 .1 .1 .1 .1 .0) (s i .args .ws .now) (e .write-entries .last .0) (i .if1 .taken)
+    (s i .args .lens .now) (b .bincount .last .0) (s i .args .vals .now) (e .write-entries .last .1 .1 .1 .1 .1 .1 .0) (s i .args .ws .now) (e .write-entries .last .0) (i .if1 .taken)
     (record { lengths = b .bincount .ensures ∙ rw (counts-lengths (s i .args .n) (s i .args .ls .now) (s i .args .vs .now) (s i .pre .0 .total)); entries = e .write-entries .ensures .0 }) (e .write-entries .ensures .1)
 
 returns-2 : tie.Need-returns-2

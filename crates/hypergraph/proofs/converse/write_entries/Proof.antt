@@ -11,20 +11,20 @@ use Rattle.hypergraph.proofs.converse.write_entries.Reads as reads
 use Rattle.hypergraph.proofs.converse.write_entries.Lts as lts
 use Rattle.array.proofs.copy.Reads as copy-reads
 use Rattle.array.proofs.fill.Reads as fill-reads
-use Rattle.indexed_coproduct.proofs.converse.converse.Reads as converse-reads
+use Rattle.indexed_coproduct.proofs.converse.converse_counted.Reads as converse-counted-reads
 use Rattle.rules.specs.Facts.ConverseTable.{entries-put}
 use Rattle.rules.specs.Facts.RowsCalls.{front-cleared}
 
 -- the table stands in front of the workspace
-module _ (c : tie.After-converse) where
+module _ (c : tie.After-converse-counted) where
   abbrev s : tie.Start
-  s = c .before .before .before .before .before .before
+  s = c .before .before .before .before .before .before .before
 
   abbrev table : ℕ
   table = s .args .n + 1 + length (s .args .vs .now)
 
-  long : length (c .converse .last .0) ≡ table
-  long = c .converse .kept .0 ∙ length-take-le table (s .args .ws .now) (omega (arith, s .pre .1))
+  long : length (c .converse-counted .last .0) ≡ table
+  long = c .converse-counted .kept .0 ∙ length-take-le table (s .args .ws .now) (omega (arith, s .pre .1))
 
 add-items : tie.Need-add-items
 add-items c = search needs
@@ -32,16 +32,16 @@ add-items c = search needs
 add-table : tie.Need-add-table
 add-table c = search needs
 
-slice-relend-prefix-converse : tie.Need-slice-relend-prefix-converse
-slice-relend-prefix-converse c = search needs
+slice-relend-prefix-converse-counted : tie.Need-slice-relend-prefix-converse-counted
+slice-relend-prefix-converse-counted c = search needs
 
-slice-aggregate-converse : tie.Need-slice-aggregate-converse
-slice-aggregate-converse c = simp length-take (omega arith)
+slice-aggregate-converse-counted : tie.Need-slice-aggregate-converse-counted
+slice-aggregate-converse-counted c = simp length-take (omega arith)
 
-converse-requires : tie.Need-converse-requires
-converse-requires c κs =
-    let s = c .before .before .before .before .before in
-    (s .pre .0, length-take-le (s .args .n + 1 + length (s .args .vs .now)) (s .args .ws .now) (omega (arith, s .pre .1)))
+converse-counted-requires : tie.Need-converse-counted-requires
+converse-counted-requires c κs =
+    let s = c .before .before .before .before .before .before in
+    (s .pre .0 .0, (length-take-le (s .args .n + 1 + length (s .args .vs .now)) (s .args .ws .now) (omega (arith, s .pre .1)), s .pre .0 .1, s .pre .0 .2))
 
 slice-relend-prefix-copy : tie.Need-slice-relend-prefix-copy
 slice-relend-prefix-copy c = search needs
@@ -79,8 +79,8 @@ returns : tie.Need-returns
 returns c =
     let y = c .before .before .before .before .before .before in
     let t = y .before .before .before .before .before .before in (
-      entries-put (s t .args .n) (s t .args .ls .now) (s t .args .vs .now) (t .converse .last .0) (drop (table t) (s t .args .ws .now)) (y .copy .last .0) (s t .args .vals .now) (t .converse .ensures) (long t) (y .copy .ensures),
-      c .before .before .fill .ensures ∙ front-cleared (table t) (s t .args .words) (t .converse .last .0) (s t .args .ws .now) (long t) (s t .pre .1 .0),
+      entries-put (s t .args .n) (s t .args .ls .now) (s t .args .vs .now) (t .converse-counted .last .0) (drop (table t) (s t .args .ws .now)) (y .copy .last .0) (s t .args .vals .now) (t .converse-counted .ensures) (long t) (y .copy .ensures),
+      c .before .before .fill .ensures ∙ front-cleared (table t) (s t .args .words) (t .converse-counted .last .0) (s t .args .ws .now) (long t) (s t .pre .1 .0),
     )
 
 pub write-entries-spec : {M : Type 1} → statement M
@@ -89,9 +89,9 @@ write-entries-spec =
     (tie.spec
     add-items
     add-table
-    slice-relend-prefix-converse
-    slice-aggregate-converse
-    converse-requires
+    slice-relend-prefix-converse-counted
+    slice-aggregate-converse-counted
+    converse-counted-requires
     slice-relend-prefix-copy
     slice-aggregate-copy
     mul-copy
