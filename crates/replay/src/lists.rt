@@ -1,13 +1,8 @@
 // The numbers of a line, and the lists of a case one behind the other.
+use text::lines::least;
 ghost use mathlib.Core.Path.{_≡_};
 ghost use Prim.Native.Nat.{_≤_};
 ghost use lib.ListN.{length};
-
-fn least(a: usize, b: usize) -> usize
-    ensures { λ r. ⌜ (r ≤ a) × (r ≤ b) ⌝ }
-{
-    if a < b { a } else { b }
-}
 
 fn is_digit(b: u8) -> bool {
     (47 < b) & (b < 58)
