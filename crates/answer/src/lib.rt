@@ -38,6 +38,7 @@ fn put_layers(
     let mut orders = [0u32; 256];
     let mut marks = [0u32; 256];
     let mut ws = [0u32; 8200];
+    // It answers `Fine`: the drawing was checked before, and these rooms hold what every drawing of a text needs.
     layer(w, x, sl, sv, tl, tv, &mut orders, &mut marks, &mut ws);
     let m = x.len();
     put_operations(out, 0, &orders[..m], &marks[..m])
