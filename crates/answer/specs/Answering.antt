@@ -1,4 +1,4 @@
--- What the functions of the answer take and leave. No promise cites this file.
+-- What the functions of the answer take and leave. The promise does not cite this file.
 use Prim.Native.Nat.{ℕ, _≤_}
 use mathlib.Core.List.{List, [], _∷_}
 use mathlib.Core.Path.{_≡_}

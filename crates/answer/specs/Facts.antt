@@ -1,8 +1,9 @@
 -- Laws of the answer: what the calls that it makes leave, and that this is what the rules say.
-use Prim.Native.Nat.{ℕ, _≤_}
+use Prim.Native.Nat.{ℕ, _≤_, _<_}
 use mathlib.Core.List.{List, [], _∷_, _++_}
-use mathlib.Core.Path.{_≡_, sym, ap, _∙_}
+use mathlib.Core.Path.{_≡_, refl, sym, ap, _∙_}
 use native.Mathlib.Omega.{arith}
+use native.Mathlib.Decide.{decLt}
 use lib.ListN.{length, getD, take, drop, length-map}
 use lib.Seq.{take-append-seam}
 use Rattle.rules.specs.Lists.{range}
@@ -30,6 +31,7 @@ use Rattle.text.specs.Writing.{Put, operations}
 use Rattle.text.specs.Facts.Parts.{Held, held}
 use Rattle.text.specs.Facts.Answers.{operations-are}
 use Rattle.text.specs.Facts.Puts.{Rest, rest-start}
+use Rattle.answer.specs.Promise.{Answered}
 use Rattle.answer.specs.Answering.{Small, Nine, answerIn, closing}
 
 -- the same bytes
@@ -115,6 +117,18 @@ module _ (ls : List (List ℕ)) (w x sl sv tl tv inputs outputs values : List �
   pub sections-answer : answerIn ls ≡ answer (drawing w x sl sv tl tv) (boundary inputs outputs) values
   sections-answer = rw (e0, e1, e2, e3, e4, e5, e6, e7, e8)
 
--- for who calls it: what is written fits into the room
-pub answer-within : (t : List ℕ) {out out' : List ℕ} {r : ℕ} → Put (outputOf t) 0 out out' r → r ≤ mostWritten
-answer-within t p = omega (arith, p .next, output-long t)
+-- the promise of `answer`: a room that is too small, one that is not
+module _ {t out : List ℕ} where
+  pub answered-kept : length out < mostWritten → Answered t out out 0
+  answered-kept h = record { written = λ g. absurd (omega (arith, g)); kept = λ _. (refl, refl) }
+
+  pub answered-written : {out' : List ℕ} {r : ℕ} → mostWritten ≤ length out → Put (outputOf t) 0 out out' r → Answered t out out' r
+  answered-written h p = record { written = λ _. p; kept = λ g. absurd (omega (arith, g)) }
+
+  -- for who calls it: what is written stands within the room
+  pub answer-within : {out' : List ℕ} {r : ℕ} → Answered t out out' r → r ≤ length out
+  answer-within {out'} {r} a = go (decLt (length out) mostWritten)
+    where
+      go : Dec (length out < mostWritten) → r ≤ length out
+      go (yes h) = omega (arith, a .kept h .1)
+      go (no h) = omega (arith, a .written (omega arith) .next, output-long t)

@@ -1,2 +1,3 @@
+pub mod Promise
 pub mod Answering
 pub mod Facts

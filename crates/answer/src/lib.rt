@@ -18,6 +18,7 @@ ghost use Rattle.rules.specs.Text.{mostCounted};
 ghost use Rattle.rules.specs.Program.{answer as answerOf, operationLines, outputOf, mostWords, mostWritten};
 ghost use Rattle.text.specs.Reading.{sectionsOf};
 ghost use Rattle.text.specs.Writing.{Put};
+ghost use Rattle.answer.specs.Promise.{Answered};
 ghost use Rattle.answer.specs.Answering.{Small, Nine, answerIn, closing};
 
 // The operations' header and lines, of a drawing that `layer` does not refuse.
@@ -37,6 +38,7 @@ fn put_layers(
     let mut orders = [0u32; 256];
     let mut marks = [0u32; 256];
     let mut ws = [0u32; 8200];
+    // It answers `Fine`: the drawing was checked before, and these rooms hold what every drawing of a text needs.
     layer(w, x, sl, sv, tl, tv, &mut orders, &mut marks, &mut ws);
     let m = x.len();
     put_operations(out, 0, &orders[..m], &marks[..m])
@@ -130,8 +132,8 @@ fn put_sections(counts: &[u32], numbers: &[u32], out: &mut [u8]) -> usize
     )
 }
 
-// All of the program: what it writes for a text stands at the front of `out`, and the answer is how many bytes that is.
-pub fn answer(text: &[u8], out: &mut [u8]) -> usize
+// What is written for a text, in a room that holds it.
+fn put_output(text: &[u8], out: &mut [u8]) -> usize
     requires { ⌜ mostWritten ≤ length (now out) ⌝ }
     ensures { λ r. ⌜ Put (outputOf (now (text .entry))) 0 (now (out .entry)) (now (out .exit)) r ⌝ }
 {
@@ -144,4 +146,15 @@ pub fn answer(text: &[u8], out: &mut [u8]) -> usize
         Text::Refused(k) => put_refused(out, 0, k),
         Text::Read => put_sections(&counts, &numbers, out),
     }
+}
+
+// All of the program: what it writes for a text stands at the front of `out`, and the answer is how many bytes that is. Where `out` has fewer
+// than 16,384 bytes it writes nothing, and the answer is 0.
+pub fn answer(text: &[u8], out: &mut [u8]) -> usize
+    ensures { λ r. ⌜ Answered (now (text .entry)) (now (out .entry)) (now (out .exit)) r ⌝ }
+{
+    if out.len() < 16384 {
+        return 0;
+    }
+    put_output(text, out)
 }

@@ -100,70 +100,6 @@ fn look_up(
     refusal
 }
 
-// Calls on two drawings and the maps between them.
-fn judge(
-    call: u32,
-    cw: &[u32],
-    cx: &[u32],
-    csl: &[u32],
-    csv: &[u32],
-    ctl: &[u32],
-    ctv: &[u32],
-    dw: &[u32],
-    dx: &[u32],
-    dsl: &[u32],
-    dsv: &[u32],
-    dtl: &[u32],
-    dtv: &[u32],
-    fw: &[u32],
-    wd: u32,
-    fx: &[u32],
-    xd: u32,
-    ws: &mut [u32],
-    word: &mut u32,
-) -> u32 {
-    match call {
-        15 => exports::tiwelzam_validate(
-            cw,
-            cx,
-            csl,
-            csv,
-            ctl,
-            ctv,
-            dw,
-            dx,
-            dsl,
-            dsv,
-            dtl,
-            dtv,
-            fw,
-            wd,
-            fx,
-            xd,
-        ),
-        _ => exports::tiwelzam_is_convex_subgraph(
-            cw,
-            cx,
-            csl,
-            csv,
-            ctl,
-            ctv,
-            dw,
-            dx,
-            dsl,
-            dsv,
-            dtl,
-            dtv,
-            fw,
-            wd,
-            fx,
-            xd,
-            ws,
-            word,
-        ),
-    }
-}
-
 // The calls on one drawing.
 fn on_drawing(call: u32, words: &[u32], ends: &[u32], ws: &mut [u32], word: &mut u32) -> u32 {
     ask(
@@ -278,17 +214,30 @@ fn on_offsets(
     )
 }
 
-fn on_two_drawings(
-    call: u32,
-    words: &[u32],
-    ends: &[u32],
-    wd: u32,
-    xd: u32,
-    ws: &mut [u32],
-    word: &mut u32,
-) -> u32 {
-    judge(
-        call,
+// The two calls on two drawings and the maps between them.
+fn validate(words: &[u32], ends: &[u32], wd: u32, xd: u32) -> u32 {
+    exports::tiwelzam_validate(
+        lists::part(words, ends, 6),
+        lists::part(words, ends, 7),
+        lists::part(words, ends, 8),
+        lists::part(words, ends, 9),
+        lists::part(words, ends, 10),
+        lists::part(words, ends, 11),
+        lists::part(words, ends, 0),
+        lists::part(words, ends, 1),
+        lists::part(words, ends, 2),
+        lists::part(words, ends, 3),
+        lists::part(words, ends, 4),
+        lists::part(words, ends, 5),
+        lists::part(words, ends, 12),
+        wd,
+        lists::part(words, ends, 13),
+        xd,
+    )
+}
+
+fn is_convex(words: &[u32], ends: &[u32], wd: u32, xd: u32, ws: &mut [u32], word: &mut u32) -> u32 {
+    exports::tiwelzam_is_convex_subgraph(
         lists::part(words, ends, 6),
         lists::part(words, ends, 7),
         lists::part(words, ends, 8),
@@ -311,7 +260,7 @@ fn on_two_drawings(
 }
 
 // The call that a case's first number names; its refusal's number, 0 for none.
-pub fn call(
+pub(crate) fn call(
     numbers: &[u32],
     words: &[u32],
     ends: &[u32],
@@ -330,7 +279,8 @@ pub fn call(
         4 | 5 | 6 | 7 | 11 => on_tables(call, words, ends, first, second, ws),
         12 => on_layers(words, ends, first, second, third, ws),
         13 | 14 => on_offsets(call, words, ends, lists::at(numbers, 3), first, word),
-        15 | 17 => on_two_drawings(call, words, ends, wd, xd, ws, word),
+        15 => validate(words, ends, wd, xd),
+        17 => is_convex(words, ends, wd, xd, ws, word),
         _ => on_drawing(call, words, ends, ws, word),
     }
 }

@@ -1,13 +1,8 @@
 // The numbers of a line, and the lists of a case one behind the other.
+use text::lines::least;
 ghost use mathlib.Core.Path.{_≡_};
 ghost use Prim.Native.Nat.{_≤_};
 ghost use lib.ListN.{length};
-
-fn least(a: usize, b: usize) -> usize
-    ensures { λ r. ⌜ (r ≤ a) × (r ≤ b) ⌝ }
-{
-    if a < b { a } else { b }
-}
 
 fn is_digit(b: u8) -> bool {
     (47 < b) & (b < 58)
@@ -45,7 +40,7 @@ fn put(into: &mut [u32], count: usize, value: u32, b: u8) -> usize
 }
 
 // Reads the numbers of a line, as many as there is room for; how many. Each has a byte behind it that is no digit.
-pub fn numbers(line: &[u8], into: &mut [u32]) -> usize
+pub(crate) fn numbers(line: &[u8], into: &mut [u32]) -> usize
     ensures { λ r. ⌜ r ≤ length (now (into .exit)) ⌝ }
 {
     let mut count = 0;
@@ -60,12 +55,12 @@ pub fn numbers(line: &[u8], into: &mut [u32]) -> usize
 }
 
 // The number at a place; 0 where there is none.
-pub fn at(numbers: &[u32], i: usize) -> u32 {
+pub(crate) fn at(numbers: &[u32], i: usize) -> u32 {
     if i < numbers.len() { numbers[i] } else { 0 }
 }
 
 // How many words are to be lent, at most so many.
-pub fn room(numbers: &[u32], i: usize, most: usize) -> usize
+pub(crate) fn room(numbers: &[u32], i: usize, most: usize) -> usize
     ensures { λ r. ⌜ r ≤ most ⌝ }
 {
     least(at(numbers, i) as usize, most)
@@ -100,7 +95,7 @@ fn put_list(list: &[u32], words: &mut [u32], to: usize) -> usize
 }
 
 // Lays the lists of a case out, one behind the other; where each ends.
-pub fn lay_out(numbers: &[u32], words: &mut [u32], ends: &mut [u32])
+pub(crate) fn lay_out(numbers: &[u32], words: &mut [u32], ends: &mut [u32])
     requires { ⌜ length (now words) ≤ 65536 ⌝ }
 {
     let mut from = least(8, numbers.len());
@@ -126,7 +121,7 @@ fn start_of(ends: &[u32], i: usize) -> u32 {
 }
 
 // List i of a case, as a part of its words; the empty part where there is none.
-pub fn part<'a>(words: &'a [u32], ends: &[u32], i: usize) -> &'a [u32]
+pub(crate) fn part<'a>(words: &'a [u32], ends: &[u32], i: usize) -> &'a [u32]
     ensures { λ r. ⌜ length (now r) ≤ length (now (words .entry)) ⌝ }
 {
     let start = start_of(ends, i) as usize;

@@ -16,8 +16,7 @@ mod call;
 mod lists;
 mod show;
 
-ghost use Prim.Native.Nat.{_≤_, _<_};
-ghost use lib.ListN.{length};
+use text::lines::line_end;
 
 // Makes the call and prints what it gives and leaves, in so much of this memory as the case lends.
 fn run_in(
@@ -83,21 +82,6 @@ fn run_line(line: &[u8]) {
     let mut numbers = [0u32; 8192];
     let count = lists::numbers(line, &mut numbers);
     run(&numbers[..count]);
-}
-
-// The place behind the line that begins at a place.
-fn line_end(input: &[u8], at: usize) -> usize
-    requires { ⌜ at < length (now input) ⌝ }
-    ensures { λ r. ⌜ (at < r) × (r ≤ length (now (input .entry))) ⌝ }
-{
-    let mut i = at;
-    while i + 1 < input.len() {
-        if input[i] == 10 {
-            return i + 1;
-        }
-        i += 1;
-    }
-    i + 1
 }
 
 fn run_all(input: &[u8]) {

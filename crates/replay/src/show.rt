@@ -5,14 +5,14 @@ fn word(a: u32) {
 }
 
 // The refusal's number and the answer's word.
-pub fn answer(refusal: u32, answer: u32) {
+pub(crate) fn answer(refusal: u32, answer: u32) {
     word(refusal);
     io::write_all(1, b" ");
     word(answer);
 }
 
 // The words of a list, each behind a blank.
-pub fn words(list: &[u32]) {
+pub(crate) fn words(list: &[u32]) {
     let mut i = 0;
     while i < list.len() {
         io::write_all(1, b" ");
@@ -46,7 +46,7 @@ fn kept(list: &[u32]) -> usize {
 }
 
 // How many words of the workspace are 0, and how many are as they were; the line's end.
-pub fn workspace(ws: &[u32]) {
+pub(crate) fn workspace(ws: &[u32]) {
     io::write_all(1, b" ");
     io::print_decimal(1, zeros(ws) as u64);
     io::write_all(1, b" ");

@@ -2,14 +2,10 @@
 //
 // Each begins with a line of its own: five digits, how many bytes it has; a space; five digits, how often the last of them is to stand; and
 // words. That line is written again, and then what the answer is. A line's end stands behind each text.
+use text::lines::least;
+use text::lines::line_end;
 ghost use Prim.Native.Nat.{_≤_, _<_};
 ghost use lib.ListN.{length};
-
-fn least(a: usize, b: usize) -> usize
-    ensures { λ r. ⌜ (r ≤ a) × (r ≤ b) ⌝ }
-{
-    if a < b { a } else { b }
-}
 
 // The number that five digits stand for, at most 65537; 0 where they are not there.
 fn number_at(input: &[u8], at: usize) -> usize
@@ -33,21 +29,6 @@ fn number_at(input: &[u8], at: usize) -> usize
         i += 1;
     }
     n
-}
-
-// The place behind the line that a place stands in.
-fn line_end(input: &[u8], at: usize) -> usize
-    requires { ⌜ at < length (now input) ⌝ }
-    ensures { λ r. ⌜ (at < r) × (r ≤ length (now (input .entry))) ⌝ }
-{
-    let mut i = at;
-    while i + 1 < input.len() {
-        if input[i] == 10 {
-            return i + 1;
-        }
-        i += 1;
-    }
-    i + 1
 }
 
 // Copies bytes to the front of a text, as many as it holds.

@@ -1,4 +1,4 @@
--- What the functions of the writer did. The contract of `answer` cites `Put`.
+-- What the functions of the writer did. The promise of `answer` cites `Put`.
 use Prim.Native.Nat.{ℕ, _+_}
 use mathlib.Core.Path.{_≡_}
 use mathlib.Core.List.{List, _++_}

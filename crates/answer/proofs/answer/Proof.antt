@@ -1,108 +1,23 @@
-use Prim.Native.Nat.{ℕ}
-use mathlib.Core.Path.{_≡_, refl, ap}
-use mathlib.Core.List.{List}
 use native.Mathlib.Omega.{arith}
-use lib.ListN.{length}
-use Rattle.rules.specs.Program.{outputOf}
-use Rattle.rules.specs.Facts.Writing.{refused-length}
-use Rattle.rules.specs.Facts.Output.{output-over}
-use Rattle.rules.specs.Facts.OutputLong.{output-long}
-use Rattle.text.specs.Facts.Parts.{Held}
-use Rattle.text.specs.Facts.Answers.{read-refused, read-answer}
-use Rattle.answer.specs.Answering.{answerIn}
-use Rattle.answer.specs.Facts.{put-same, read-held, held-nine}
-use Rattle.text.specs.Reading.{sectionsOf}
+use Rattle.answer.specs.Facts.{answered-kept, answered-written}
 use borrow.Author.Needs.{needs}
 use Rattle.answer.proofs.answer.Statement.{statement}
 use Rattle.answer.proofs.answer.Tie as tie
 use Rattle.answer.proofs.answer.Reads as reads
 use Rattle.answer.proofs.answer.Lts as lts
-use Rattle.answer.proofs.put_sections.Reads as put-sections-reads
-use Rattle.text.proofs.reader.read_text.Reads as read-text-reads
-use Rattle.text.proofs.writer.put_refused.Reads as put-refused-reads
+use Rattle.answer.proofs.put_output.Reads as put-output-reads
 
--- the text is read whole
-module _ (c : tie.After-enum-told) where
-  abbrev s : tie.Start
-  s = c .before .before .before .before .before .before .before .before .before .before
+returns : tie.Need-returns
+returns c = answered-kept (omega arith)
 
-  abbrev counts : List ℕ
-  counts = c .before .before .before .before .read-text .last .1 .0
-
-  abbrev numbers : List ℕ
-  numbers = c .before .before .before .before .read-text .last .1 .1 .0
-
-  read : Held (s .args .text .now) counts numbers
-  read = read-held (s .args .text .now) (c .before .before .before .before .read-text .ensures) refl refl (cc)
-
-  written : outputOf (s .args .text .now) ≡ answerIn (sectionsOf counts numbers)
-  written = read-answer (s .args .text .now) (c .before .before .before .before .before .before .before .if1 .left) read
-
-put-refused-requires : tie.Need-put-refused-requires
-put-refused-requires c κs = omega (arith, refused-length 1)
+put-output-requires : tie.Need-put-output-requires
+put-output-requires c κs = search needs
 
 same-length : tie.Need-same-length
 same-length c = search needs
 
-returns : tie.Need-returns
-returns c = put-same (output-over (c .before .before .before .before .before .before .before .args .text .now) (c .before .before .before .before .if1 .taken)) (c .before .before .put-refused .ensures)
-
-slice-aggregate-read-text : tie.Need-slice-aggregate-read-text
-slice-aggregate-read-text c = search needs
-
-slice-aggregate-read-text-2 : tie.Need-slice-aggregate-read-text-2
-slice-aggregate-read-text-2 c = search needs
-
-read-text-requires : tie.Need-read-text-requires
-read-text-requires c κs = search needs
-
-enum-known-k : tie.Need-enum-known-k
-enum-known-k c = search needs
-
-put-refused-requires-2 : tie.Need-put-refused-requires-2
-put-refused-requires-2 c κs = omega (arith, refused-length (c .before .before .k .given .0 .0))
-
-enum-told : tie.Need-enum-told
-enum-told c = search needs
-
-slice-aggregate-put-sections : tie.Need-slice-aggregate-put-sections
-slice-aggregate-put-sections c = search needs
-
-slice-aggregate-put-sections-2 : tie.Need-slice-aggregate-put-sections-2
-slice-aggregate-put-sections-2 c = search needs
-
-put-sections-requires : tie.Need-put-sections-requires
-put-sections-requires c κs = let e = c .before .before .before in (held-nine (read e), omega (arith, ap length (written e), output-long (s e .args .text .now)))
-
-same-length-2 : tie.Need-same-length-2
-same-length-2 c = search needs
-
 returns-2 : tie.Need-returns-2
-returns-2 c = put-same (read-refused (c .before .before .before .before .before .before .before .before .before .before .before .before .before .before .before .args .text .now) (c .before .before .before .before .before .before .before .before .before .before .before .before .if1 .left) (c .before .before .before .before .before .k .given .0 .0) (c .before .before .before .before .before .before .before .before .before .read-text .ensures) (cc)) (c .before .before .put-refused2 .ensures)
-
-same-length-3 : tie.Need-same-length-3
-same-length-3 c = search needs
-
-returns-3 : tie.Need-returns-3
-returns-3 c = put-same (written (c .before .before .before .before .before .before)) (c .before .before .put-sections .ensures)
+returns-2 c = answered-written (omega arith) (c .before .before .put-output .ensures)
 
 pub answer-spec : {M : Type 1} → statement M
-answer-spec =
-    tie.close
-    (tie.spec
-    put-refused-requires
-    same-length
-    returns
-    slice-aggregate-read-text
-    slice-aggregate-read-text-2
-    read-text-requires
-    enum-known-k
-    put-refused-requires-2
-    enum-told
-    slice-aggregate-put-sections
-    slice-aggregate-put-sections-2
-    put-sections-requires
-    same-length-2
-    returns-2
-    same-length-3
-    returns-3)
+answer-spec = tie.close (tie.spec returns put-output-requires same-length returns-2)

@@ -5,7 +5,7 @@ use Rattle.replay.proofs.run_all.Statement.{statement}
 use Rattle.replay.proofs.run_all.Tie as tie
 use Rattle.replay.proofs.run_all.Reads as reads
 use Rattle.replay.proofs.run_all.Lts as lts
-use Rattle.replay.proofs.line_end.Reads as line-end-reads
+use Rattle.text.proofs.lines.line_end.Reads as line-end-reads
 use Rattle.replay.proofs.run_line.Reads as run-line-reads
 
 abbrev Inv-loop : tie.InvT-loop

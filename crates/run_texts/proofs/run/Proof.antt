@@ -29,10 +29,10 @@ answer-requires : tie.Need-answer-requires
 answer-requires c κs = search needs
 
 array-share-prefix-out : tie.Need-array-share-prefix-out
-array-share-prefix-out c = omega (arith, answer-within _ (c .before .answer .ensures))
+array-share-prefix-out c = omega (arith, answer-within (c .before .answer .ensures))
 
 slice-aggregate-write-all : tie.Need-slice-aggregate-write-all
-slice-aggregate-write-all c = simp length-take (omega (arith, answer-within _ (c .before .before .answer .ensures)))
+slice-aggregate-write-all c = simp length-take (omega (arith, answer-within (c .before .before .answer .ensures)))
 
 write-all-requires : tie.Need-write-all-requires
 write-all-requires c κs = search needs

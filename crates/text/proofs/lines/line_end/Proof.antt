@@ -1,10 +1,10 @@
 use Prim.Native.Nat.{_≤_, _<_, _-_}
 use lib.ListN.{length}
 use borrow.Author.Needs.{needs}
-use Rattle.run_texts.proofs.line_end.Statement.{statement}
-use Rattle.run_texts.proofs.line_end.Tie as tie
-use Rattle.run_texts.proofs.line_end.Reads as reads
-use Rattle.run_texts.proofs.line_end.Lts as lts
+use Rattle.text.proofs.lines.line_end.Statement.{statement}
+use Rattle.text.proofs.lines.line_end.Tie as tie
+use Rattle.text.proofs.lines.line_end.Reads as reads
+use Rattle.text.proofs.lines.line_end.Lts as lts
 
 abbrev Inv-loop : tie.InvT-loop
 Inv-loop input at i₀ i = (at ≤ i) × (i < length input)
