@@ -1,5 +1,5 @@
 //! A case: everything that is handed to the calls, and its text. Knows nothing of the library.
-use std::io;
+use std::io::{self, BufRead, Write};
 
 #[derive(Clone, Debug, Default)]
 pub struct Drawing {
@@ -33,6 +33,26 @@ pub struct Case {
     pub workspace_short: u32,
     /// The same for each output of a call, in 01's order.
     pub output_short: Vec<u32>,
+}
+
+/// Reads cases from standard input and prints the answers to each, a line for each call. Ends the program if it cannot.
+pub fn print_answers(program: &str, answers: impl Fn(&Case) -> Vec<(&'static str, String)>) {
+    if let Err(error) = print_all(answers) {
+        eprintln!("{program}: {error}");
+        std::process::exit(2);
+    }
+}
+
+fn print_all(answers: impl Fn(&Case) -> Vec<(&'static str, String)>) -> io::Result<()> {
+    let mut out = io::BufWriter::new(io::stdout().lock());
+    for case in Cases::new(io::stdin().lock().lines()) {
+        let case = case?;
+        writeln!(out, "case {}", case.name)?;
+        for (call, answer) in answers(&case) {
+            writeln!(out, "{call} {answer}")?;
+        }
+    }
+    out.flush()
 }
 
 /// The cases of a text, one by one.

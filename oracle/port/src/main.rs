@@ -7,24 +7,6 @@ mod case;
 mod lent;
 mod offsets;
 
-use case::Cases;
-use std::io::{self, BufRead, Write};
-
 fn main() {
-    if let Err(error) = run() {
-        eprintln!("port: {error}");
-        std::process::exit(2);
-    }
-}
-
-fn run() -> io::Result<()> {
-    let mut out = io::BufWriter::new(io::stdout().lock());
-    for case in Cases::new(io::stdin().lock().lines()) {
-        let case = case?;
-        writeln!(out, "case {}", case.name)?;
-        for (call, answer) in answers::answers(&case) {
-            writeln!(out, "{call} {answer}")?;
-        }
-    }
-    out.flush()
+    case::print_answers("port", answers::answers);
 }
