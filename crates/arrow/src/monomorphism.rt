@@ -10,8 +10,7 @@ ghost use Rattle.rules.specs.Maps.{Injective};
 ghost use Rattle.rules.specs.Promises.{IsMonomorphism};
 ghost use Rattle.rules.specs.Inner.Decides.{Decides};
 
-// Whether no entry stands twice in w and none in x, in lent words, one for each number below either target.
-// They are zero afterwards, also where x is not looked at.
+// Whether no entry stands twice in fw and none in fx. Lent a word for each number below either declared target; all are zero afterwards.
 pub fn both_injective(fw: &[u32], fx: &[u32], seen: &mut [u32]) -> bool
     requires { ⌜ ((u : ℕ) → u ∈ now fw → u < length (now seen)) × ((u : ℕ) → u ∈ now fx → u < length (now seen)) ⌝ }
     requires { ⌜ (length (now fw) < 2 ^ 32) × (length (now fx) < 2 ^ 32) ⌝ }
@@ -23,7 +22,7 @@ pub fn both_injective(fw: &[u32], fx: &[u32], seen: &mut [u32]) -> bool
     finite_function::is_injective(fx, seen)
 }
 
-// Whether no entry stands twice in w and none in x. Lent a workspace of as many words as the larger declared target, or more.
+// Whether no entry stands twice in fw and none in fx. Lent a workspace of as many words as the larger declared target, or more.
 pub fn is_monomorphism(fw: &[u32], wd: u32, fx: &[u32], xd: u32, ws: &mut [u32]) -> Verdict
     ensures { λ r. ⌜ IsMonomorphism (maps (now (fw .entry)) wd (now (fx .entry)) xd) (now (ws .entry)) (now (ws .exit)) r ⌝ }
 {

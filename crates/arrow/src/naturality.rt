@@ -1,4 +1,6 @@
 // Whether maps are natural: the refusals 5 to 10, in document 01's order. (In the Rust: `validate_hypergraph_morphism`.)
+//
+// Lists of one kind, sources or targets, are lengths and values: cl and cv of the source c, dl and dv of the target d.
 use rules::Done;
 use rules::Refusal;
 ghost use Prim.Native.Nat.{_<_};
@@ -13,8 +15,8 @@ ghost use Rattle.rules.specs.Calls.{naturalRefusal};
 ghost use Rattle.rules.specs.Inner.Loops.{Starting};
 ghost use Rattle.rules.specs.Inner.Arrow.{Sized, Carrying, carriedList, carriedRefusal};
 
-// Whether operation e's list, which begins at from, is carried to the list of its image.
-// Both are handed to the comparison as parts of their values table. `starts` tells where the target's lists begin.
+// Whether operation e's list, which begins at `from`, is carried to the list of its image.
+// Both are handed to the comparison as parts of their values table. `starts` tells where the lists of d begin.
 fn list_carried(
     fw: &[u32],
     fx: &[u32],
@@ -64,7 +66,7 @@ fn lists_carried_from(
     true
 }
 
-// The same, from the lists alone.
+// The same, which finds the starts itself.
 fn lists_carried(fw: &[u32], fx: &[u32], cl: &[u32], cv: &[u32], dl: &[u32], dv: &[u32]) -> bool
     requires { ⌜ Carrying (now fw) (now fx) (now cl) (now cv) (now dl) (now dv) ⌝ }
     ensures { λ r. ⌜ r ≡ all (carriedList (now (fw .entry)) (now (fx .entry)) (now (cl .entry)) (now (cv .entry)) (now (dl .entry)) (now (dv .entry))) (range (length (now (fx .entry)))) ⌝ }
@@ -74,7 +76,7 @@ fn lists_carried(fw: &[u32], fx: &[u32], cl: &[u32], cv: &[u32], dl: &[u32], dv:
     lists_carried_from(fw, fx, cl, cv, dl, dv, &starts)
 }
 
-// 7, 8: labels are carried; 9, 10: lists are. The counts and the declared targets fit.
+// 7, 8: labels are not carried; 9, 10: lists are not. Of maps whose counts and declared targets fit.
 fn check_carried(
     cw: &[u32],
     cx: &[u32],

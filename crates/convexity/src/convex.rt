@@ -11,6 +11,7 @@ ghost use Rattle.rules.specs.Drawing.{Accepted, AcceptedMaps, drawing, maps, mo
 ghost use Rattle.rules.specs.Maps.{Convex};
 ghost use Rattle.rules.specs.Promises.{IsConvexSubgraph};
 ghost use Rattle.rules.specs.Refusals.{workspaceNeed};
+ghost use Rattle.rules.specs.Inner.Arrow.{arrowInputsRefusal};
 ghost use Rattle.rules.specs.Inner.Decides.{Decides, GroupConvex};
 ghost use Rattle.rules.specs.Inner.Selected.{SelectedOps};
 
@@ -40,7 +41,7 @@ fn decide_natural(
     !has_road(ws, dw, dx, dsl, dsv, dtl, dtv, fw, fx)
 }
 
-// Decides, in W words of workspace, and clears them: no where 5 to 10 would refuse.
+// Of valid drawings and maps: whether the group is convex; no where validation gives 5 to 10. In W words of workspace, which it clears.
 fn decide(
     ws: &mut [u32],
     cw: &[u32],
@@ -91,6 +92,58 @@ fn decide(
     }
 }
 
+// Of valid drawings and maps: 11 where the workspace has fewer than W words, else the answer.
+fn verdict(
+    cw: &[u32],
+    cx: &[u32],
+    csl: &[u32],
+    csv: &[u32],
+    ctl: &[u32],
+    ctv: &[u32],
+    dw: &[u32],
+    dx: &[u32],
+    dsl: &[u32],
+    dsv: &[u32],
+    dtl: &[u32],
+    dtv: &[u32],
+    fw: &[u32],
+    wd: u32,
+    fx: &[u32],
+    xd: u32,
+    ws: &mut [u32],
+) -> Verdict
+    requires { ⌜ arrowInputsRefusal (drawing (now cw) (now cx) (now csl) (now csv) (now ctl) (now ctv)) (drawing (now dw) (now dx) (now dsl) (now dsv) (now dtl) (now dtv)) (maps (now fw) wd (now fx) xd) ≡ 0 ⌝ }
+    ensures { λ r. ⌜ IsConvexSubgraph (drawing (now (cw .entry)) (now (cx .entry)) (now (csl .entry)) (now (csv .entry)) (now (ctl .entry)) (now (ctv .entry))) (drawing (now (dw .entry)) (now (dx .entry)) (now (dsl .entry)) (now (dsv .entry)) (now (dtl .entry)) (now (dtv .entry))) (maps (now (fw .entry)) wd (now (fx .entry)) xd) (now (ws .entry)) (now (ws .exit)) r ⌝ }
+{
+    let words = hypergraph::check::workspace_need(dw, dx, dsl, dsv, dtl, dtv);
+    if ws.len() < words {
+        return Verdict::Refused(Refusal::ShortRoom);
+    }
+    if decide(
+        &mut ws[..words],
+        cw,
+        cx,
+        csl,
+        csv,
+        ctl,
+        ctv,
+        dw,
+        dx,
+        dsl,
+        dsv,
+        dtl,
+        dtv,
+        fw,
+        wd,
+        fx,
+        xd,
+    ) {
+        Verdict::Yes
+    } else {
+        Verdict::No
+    }
+}
+
 // Whether the maps are natural and injective and no path that begins with an unselected operation leads from a selected node to one.
 // Lent a workspace of W words or more.
 pub fn is_convex_subgraph(
@@ -133,34 +186,24 @@ pub fn is_convex_subgraph(
         xd,
     ) {
         Done::Faulty(why) => Verdict::Refused(why),
-        Done::Fine => {
-            let words = 8 * (dw.len() + dx.len()) + 2 * (dsv.len() + dtv.len()) + 8;
-            if ws.len() < words {
-                return Verdict::Refused(Refusal::ShortRoom);
-            }
-            if decide(
-                &mut ws[..words],
-                cw,
-                cx,
-                csl,
-                csv,
-                ctl,
-                ctv,
-                dw,
-                dx,
-                dsl,
-                dsv,
-                dtl,
-                dtv,
-                fw,
-                wd,
-                fx,
-                xd,
-            ) {
-                Verdict::Yes
-            } else {
-                Verdict::No
-            }
-        }
+        Done::Fine => verdict(
+            cw,
+            cx,
+            csl,
+            csv,
+            ctl,
+            ctv,
+            dw,
+            dx,
+            dsl,
+            dsv,
+            dtl,
+            dtv,
+            fw,
+            wd,
+            fx,
+            xd,
+            ws,
+        ),
     }
 }

@@ -4,8 +4,8 @@ pub mod road;
 pub mod tables;
 pub mod walk;
 
-// The walk's state: a path that has not left the selection takes unselected operations only, one that has left it takes all.
-pub enum Layer {
+// The stage of a path: inside the selection it takes unselected operations only, once it has left it takes all.
+pub enum Stage {
     Inside,
     Outside,
 }

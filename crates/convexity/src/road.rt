@@ -28,7 +28,7 @@ fn any_marked(marks: &[u32], list: &[u32]) -> bool
     false
 }
 
-// Decides, in W words of workspace, and clears them. The nodes fw and the operations fx are selected.
+// Decides it, in W words of workspace, which it clears. The nodes fw and the operations fx are selected.
 pub fn has_road(
     ws: &mut [u32],
     w: &[u32],

@@ -11,7 +11,7 @@ ghost use Rattle.rules.specs.Inner.Table.{Table};
 ghost use Rattle.rules.specs.Inner.Walk.{Laid};
 ghost use Rattle.rules.specs.Inner.Selected.{SelectedOps, Flags, Kept, Roomy, Filtered, TwoTables};
 
-// An item is put at word q, unless it is flagged. Gives the word behind.
+// An item is put at word q, unless its flag, one of those from word `flags` on, is set. Gives the word behind.
 fn keep(ws: &mut [u32], flags: usize, q: usize, item: u32) -> usize
     requires { ⌜ (q < flags) × (flags + item < length (now ws)) ⌝ }
     ensures { λ r. ⌜ Kept flags q (item ∷ []) (now (ws .entry)) r (now (ws .exit)) ⌝ }
@@ -58,19 +58,19 @@ fn unselected(ws: &mut [u32], n: usize, k: usize, b: usize, c: usize)
     }
 }
 
-// The flags of n nodes and of operations behind them: those of the selected operations are not 0.
-fn select(flags: &mut [u32], n: usize, x: &[u32])
-    requires { ⌜ (n ≤ length (now flags)) × (length (now x) ≤ mostItems) ⌝ }
-    requires { ⌜ ((e : ℕ) → e ∈ now x → n + e < length (now flags)) ⌝ }
-    ensures { λ _. ⌜ Flags n (now (x .entry)) (now (flags .exit)) ⌝ }
+// The flags of n nodes and of the operations behind them: those of the selected operations, fx, are not 0.
+fn select(flags: &mut [u32], n: usize, fx: &[u32])
+    requires { ⌜ (n ≤ length (now flags)) × (length (now fx) ≤ mostItems) ⌝ }
+    requires { ⌜ ((e : ℕ) → e ∈ now fx → n + e < length (now flags)) ⌝ }
+    ensures { λ _. ⌜ Flags n (now (fx .entry)) (now (flags .exit)) ⌝ }
 {
     let k = flags.len();
     let m = k - n;
     array::fill(flags, k, 0);
-    array::count_values(&mut flags[n..k], m, x);
+    array::count_values(&mut flags[n..k], m, fx);
 }
 
-// Both tables, in the first words of a workspace.
+// Both tables, in the first words of a workspace. The operations fx are selected.
 pub fn tables(
     ws: &mut [u32],
     w: &[u32],

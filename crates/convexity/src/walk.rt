@@ -1,13 +1,13 @@
-// The walk in two layers over two plain tables. It knows nothing of drawings.
+// The walk in two stages over two plain tables. It knows nothing of drawings.
 //
 // The workspace holds the full table of k rows in its first b words, the table of n rows without the selected operations up to
 // word c, and behind them, for k items: marks and a queue. A mark is 0, or one more than the item from which an item was first reached.
-use crate::Layer;
+use crate::Stage;
 ghost use mathlib.Core.List.{[], _∷_};
 ghost use mathlib.Core.Path.{_≡_};
 ghost use Prim.Native.Nat.{ℕ, _<_, _≤_};
 ghost use lib.ListN.{length};
-ghost use Rattle.convexity.specs.Layers.{rowsOf, tableOf};
+ghost use Rattle.convexity.specs.Stages.{rowsOf, tableOf};
 ghost use Rattle.rules.specs.Lists.{_∈_};
 ghost use Rattle.rules.specs.Inner.Table.{successors};
 ghost use Rattle.rules.specs.Inner.Walk.{Laid};
@@ -23,31 +23,31 @@ fn row(table: &[u32], k: usize, i: usize) -> &[u32]
     &table[from..end]
 }
 
-// What item i leads to: the layer picks the table that supplies the row.
+// What item i leads to: the stage picks the table that supplies the row.
 fn leaving<'a>(
-    layer: Layer,
+    stage: Stage,
     unselected: &'a [u32],
     full: &'a [u32],
     n: usize,
     k: usize,
     i: usize,
 ) -> &'a [u32]
-    requires { ⌜ Row (rowsOf layer n k) (tableOf layer (now unselected) (now full)) i ⌝ }
-    ensures { λ r. ⌜ now r ≡ successors (rowsOf layer n k) (tableOf layer (now (unselected .entry)) (now (full .entry))) i ⌝ }
+    requires { ⌜ Row (rowsOf stage n k) (tableOf stage (now unselected) (now full)) i ⌝ }
+    ensures { λ r. ⌜ now r ≡ successors (rowsOf stage n k) (tableOf stage (now (unselected .entry)) (now (full .entry))) i ⌝ }
 {
-    match layer {
-        Layer::Inside => row(unselected, n, i),
-        Layer::Outside => row(full, k, i),
+    match stage {
+        Stage::Inside => row(unselected, n, i),
+        Stage::Outside => row(full, k, i),
     }
 }
 
 // The same, with the tables where they stand in a workspace.
-fn leads(ws: &[u32], n: usize, k: usize, b: usize, c: usize, layer: Layer, i: usize) -> &[u32]
+fn leads(ws: &[u32], n: usize, k: usize, b: usize, c: usize, stage: Stage, i: usize) -> &[u32]
     requires { ⌜ (b ≤ c) × (c ≤ length (now ws)) ⌝ }
-    requires { ⌜ Row (rowsOf layer n k) (tableOf layer (otherTable b c (now ws)) (fullTable b (now ws))) i ⌝ }
-    ensures { λ r. ⌜ now r ≡ successors (rowsOf layer n k) (tableOf layer (otherTable b c (now (ws .entry))) (fullTable b (now (ws .entry)))) i ⌝ }
+    requires { ⌜ Row (rowsOf stage n k) (tableOf stage (otherTable b c (now ws)) (fullTable b (now ws))) i ⌝ }
+    ensures { λ r. ⌜ now r ≡ successors (rowsOf stage n k) (tableOf stage (otherTable b c (now (ws .entry))) (fullTable b (now (ws .entry)))) i ⌝ }
 {
-    leaving(layer, &ws[b..c], &ws[..b], n, k, i)
+    leaving(stage, &ws[b..c], &ws[..b], n, k, i)
 }
 
 // Item j is reached. Where it is new, it gets a mark and joins the queue. Gives the queue's length.
@@ -72,29 +72,29 @@ fn follow(
     k: usize,
     b: usize,
     c: usize,
-    layer: Layer,
+    stage: Stage,
     i: usize,
     tail: usize,
 ) -> usize
     requires { ⌜ Laid k c (now ws) ⌝ }
     requires { ⌜ (b ≤ c) × (i < k) × Held k c tail (now ws) ⌝ }
-    requires { ⌜ Row (rowsOf layer n k) (tableOf layer (otherTable b c (now ws)) (fullTable b (now ws))) i ⌝ }
-    requires { ⌜ ((j : ℕ) → j ∈ successors (rowsOf layer n k) (tableOf layer (otherTable b c (now ws)) (fullTable b (now ws))) i → j < k) ⌝ }
-    ensures { λ r. ⌜ Followed k c tail (successors (rowsOf layer n k) (tableOf layer (otherTable b c (now (ws .entry))) (fullTable b (now (ws .entry)))) i) (now (ws .entry)) r (now (ws .exit)) ⌝ }
+    requires { ⌜ Row (rowsOf stage n k) (tableOf stage (otherTable b c (now ws)) (fullTable b (now ws))) i ⌝ }
+    requires { ⌜ ((j : ℕ) → j ∈ successors (rowsOf stage n k) (tableOf stage (otherTable b c (now ws)) (fullTable b (now ws))) i → j < k) ⌝ }
+    ensures { λ r. ⌜ Followed k c tail (successors (rowsOf stage n k) (tableOf stage (otherTable b c (now (ws .entry))) (fullTable b (now (ws .entry)))) i) (now (ws .entry)) r (now (ws .exit)) ⌝ }
 {
     let via = i as u32 + 1;
-    let count = leads(&ws[..], n, k, b, c, layer, i).len();
+    let count = leads(&ws[..], n, k, b, c, stage, i).len();
     let mut len = tail;
     let mut p = 0;
     while p < count {
-        let j = leads(&ws[..], n, k, b, c, layer, i)[p];
+        let j = leads(&ws[..], n, k, b, c, stage, i)[p];
         len = reach(ws, k, c, len, j, via);
         p += 1;
     }
     len
 }
 
-// The first steps: from each item of w, into the layer outside.
+// The first steps, from each item of w.
 fn seed(ws: &mut [u32], n: usize, k: usize, b: usize, c: usize, w: &[u32]) -> usize
     requires { ⌜ Laid k c (now ws) ⌝ }
     requires { ⌜ Pair n k b c (now ws) × (n ≤ k) × ((v : ℕ) → v ∈ now w → v < n) ⌝ }
@@ -105,7 +105,7 @@ fn seed(ws: &mut [u32], n: usize, k: usize, b: usize, c: usize, w: &[u32]) -> us
     let mut q = 0;
     while q < w.len() {
         let v = w[q] as usize;
-        tail = follow(ws, n, k, b, c, Layer::Inside, v, tail);
+        tail = follow(ws, n, k, b, c, Stage::Inside, v, tail);
         q += 1;
     }
     tail
@@ -123,7 +123,7 @@ pub fn walk(ws: &mut [u32], n: usize, k: usize, b: usize, c: usize, w: &[u32])
     let mut head = 0;
     while head < tail {
         let i = ws[queue + head] as usize;
-        tail = follow(ws, n, k, b, c, Layer::Outside, i, tail);
+        tail = follow(ws, n, k, b, c, Stage::Outside, i, tail);
         head += 1;
     }
 }

@@ -1,6 +1,7 @@
 // Evaluation of a drawing on input values, layer by layer.
 //
 // `inputs` and `outputs` are the drawing's boundary, `values` the input values, `out` the room for the answer.
+// The workspace is laid out as the crate `pass` says.
 use rules::Done;
 use rules::Refusal;
 ghost use mathlib.Core.Bool.{true};
@@ -15,7 +16,7 @@ ghost use Rattle.rules.specs.Promises.{Eval};
 ghost use Rattle.rules.specs.Inner.Layering.{Layering};
 ghost use Rattle.rules.specs.Inner.Evaluating.{earlyRefusal, lateBy, suitsBy, Prepared, Attempted, Evaluated};
 
-// Whether each operation's label is known, with as many inputs and outputs as it has.
+// Whether each operation's label is known and has so many inputs and outputs.
 fn all_suit(x: &[u32], sl: &[u32], tl: &[u32]) -> bool
     requires { ⌜ (length (now sl) ≡ length (now x)) × (length (now tl) ≡ length (now x)) ⌝ }
     ensures { λ r. ⌜ r ≡ all (suitsBy (now (x .entry)) (now (sl .entry)) (now (tl .entry))) (range (length (now (x .entry)))) ⌝ }
@@ -30,7 +31,7 @@ fn all_suit(x: &[u32], sl: &[u32], tl: &[u32]) -> bool
     true
 }
 
-// 13, then 14.
+// 13: some operation is unplaced; 14: some operation does not suit its label.
 fn fault(marks: &[u32], x: &[u32], sl: &[u32], tl: &[u32]) -> Done
     requires { ⌜ (length (now sl) ≡ length (now x)) × (length (now tl) ≡ length (now x)) ⌝ }
     ensures { λ r. ⌜ refusalOf r ≡ lateBy (now (marks .entry)) (now (x .entry)) (now (sl .entry)) (now (tl .entry)) ⌝ }
@@ -47,7 +48,7 @@ fn fault(marks: &[u32], x: &[u32], sl: &[u32], tl: &[u32]) -> Done
     }
 }
 
-// Behind the layers: where each operation's sources and targets begin, and an empty memory.
+// Behind the layers: where each operation's sources and targets begin, and a memory that is all 0.
 fn prepare(ws: &mut [u32], w: &[u32], x: &[u32], sl: &[u32], sv: &[u32], tl: &[u32], tv: &[u32])
     requires { ⌜ Accepted (drawing (now w) (now x) (now sl) (now sv) (now tl) (now tv)) × (length (now ws) ≡ workspaceNeed (drawing (now w) (now x) (now sl) (now sv) (now tl) (now tv))) ⌝ }
     requires { ⌜ Layering (drawing (now w) (now x) (now sl) (now sv) (now tl) (now tv)) (now ws) (now ws) ⌝ }
@@ -63,7 +64,7 @@ fn prepare(ws: &mut [u32], w: &[u32], x: &[u32], sl: &[u32], sv: &[u32], tl: &[u
     array::fill(&mut ws[base..room], w.len(), 0);
 }
 
-// The input values are stored.
+// The same, and the input values are stored.
 fn load(
     ws: &mut [u32],
     w: &[u32],
@@ -115,7 +116,7 @@ fn compute(
     array::gather(out, &ws[base..room], outputs);
 }
 
-// Sorts the operations, decides whether they run, and runs them.
+// Sorts the operations into layers and runs these, unless 13 or 14 is given.
 fn attempt(
     ws: &mut [u32],
     w: &[u32],
@@ -145,7 +146,7 @@ fn attempt(
     }
 }
 
-// The same, in W words of workspace, which are cleared.
+// The same, and the workspace is cleared.
 fn evaluate(
     ws: &mut [u32],
     w: &[u32],
@@ -169,7 +170,7 @@ fn evaluate(
     done
 }
 
-// 1, 2, 3, 12, 11: what is refused before anything is touched, with so many words of output and of workspace lent.
+// 1, 2, 3, 12, 11: what is refused before anything is touched, where `lent` words of output and `words` of workspace are lent.
 fn check(
     w: &[u32],
     x: &[u32],
@@ -192,7 +193,7 @@ fn check(
         match hypergraph::check::check_boundary_lists(w, x, sl, sv, tl, tv, inputs, outputs) {
             Done::Faulty(why) => Done::Faulty(why),
             Done::Fine => {
-                let need = 8 * (w.len() + x.len()) + 2 * (sv.len() + tv.len()) + 8;
+                let need = hypergraph::check::workspace_need(w, x, sl, sv, tl, tv);
                 if (outputs.len() <= lent) & (need <= words) {
                     Done::Fine
                 } else {
@@ -205,7 +206,7 @@ fn check(
     }
 }
 
-// The values at the outputs, from the values at the inputs. Lent a workspace of W words or more.
+// Writes the values at the outputs, from the values at the inputs. Lent a workspace of W words or more.
 pub fn eval(
     w: &[u32],
     x: &[u32],
@@ -236,7 +237,7 @@ pub fn eval(
     ) {
         Done::Faulty(why) => Done::Faulty(why),
         Done::Fine => {
-            let words = 8 * (w.len() + x.len()) + 2 * (sv.len() + tv.len()) + 8;
+            let words = hypergraph::check::workspace_need(w, x, sl, sv, tl, tv);
             let count = outputs.len();
             evaluate(
                 &mut ws[..words],

@@ -42,7 +42,7 @@ pub fn scatter(memory: &mut [u32], places: &[u32], values: &[u32])
     }
 }
 
-// Reads the values at places of the memory that begins at base, and writes them behind it, from a place on.
+// Reads the values at places of the memory that begins at word base, and writes them behind it, from word `to` on.
 pub fn gather_within(ws: &mut [u32], base: usize, to: usize, places: &[u32])
     requires { ⌜ ((u : ℕ) → u ∈ now places → base + u < to) × (to + length (now places) ≤ length (now ws)) ⌝ }
     ensures { λ _. ⌜ now (ws .exit) ≡ back to (length (now (places .entry))) (map (at (drop base (now (ws .entry)))) (now (places .entry))) (now (ws .entry)) ⌝ }
@@ -54,7 +54,7 @@ pub fn gather_within(ws: &mut [u32], base: usize, to: usize, places: &[u32])
     }
 }
 
-// Stores the values that stand from a place on at places of the n words of memory before them, which begin at base.
+// Stores values at places of the n words of memory that begin at word base. The values stand behind it, from word `from` on.
 pub fn scatter_within(ws: &mut [u32], base: usize, n: usize, from: usize, places: &[u32])
     requires { ⌜ ((u : ℕ) → u ∈ now places → u < n) × (base + n ≤ from) × (from + length (now places) ≤ length (now ws)) ⌝ }
     ensures { λ _. ⌜ now (ws .exit) ≡ back base n (storeAll (now (places .entry)) (seg from (length (now (places .entry))) (now (ws .entry))) (seg base n (now (ws .entry)))) (now (ws .entry)) ⌝ }

@@ -8,7 +8,7 @@ ghost use Rattle.rules.specs.Lists.{at};
 ghost use Rattle.rules.specs.Evaluation.{operation, suits, least, most, placeOf, result};
 ghost use Rattle.rules.specs.Inner.Operating.{Suited};
 
-// Whether a label is known, and the numbers of inputs and outputs are its operation's.
+// Whether a label is known and its operation has so many inputs and outputs.
 pub fn suits(label: u32, ins: usize, outs: usize) -> bool
     ensures { λ r. ⌜ r ≡ suits (operation label) ins outs ⌝ }
 {

@@ -1,5 +1,5 @@
 // The two passes of a layer: each of its operations reads its inputs and writes its outputs into its own part of the room;
-// then their outputs are stored in memory, in order.
+// then their outputs are stored in memory, in ascending operation order.
 //
 // The workspace, for m operations and n nodes: m orders, m marks, m operations layer by layer, m + 1 offsets; where each operation's
 // sources begin, and its targets, m each; n words of memory; the room, with each operation's inputs and outputs side by side.
@@ -14,7 +14,8 @@ ghost use Rattle.rules.specs.Evaluation.{operation, suits, storeAll, run};
 ghost use Rattle.rules.specs.Inner.Running.{Runs, Reads, ReadUpTo, StoredUpTo, Ran, Ready, worked, memoryAt, memoryOf, outputsIn, operationAt};
 ghost use Rattle.rules.specs.Inner.Words.{back};
 
-// An operation reads its inputs from the memory at base into its own part of the room, and writes its outputs behind them.
+// An operation reads its inputs, at places of the memory that begins at word base, into its own part of the room, which begins
+// at word `from`, and writes its outputs behind them.
 fn work(ws: &mut [u32], base: usize, from: usize, label: u32, places: &[u32], outs: usize)
     requires { ⌜ ((u : ℕ) → u ∈ now places → base + u < from) × (from + length (now places) + outs ≤ length (now ws)) ⌝ }
     requires { ⌜ (suits (operation label) (length (now places)) outs ≡ true) × (length (now places) < 2 ^ 32) ⌝ }
@@ -80,7 +81,7 @@ fn store_one(
     memory::scatter_within(ws, base, n, base + n + s + t + sl[e] as usize, &tv[t..end]);
 }
 
-// The operations at the places from lo up to hi read.
+// The operations that stand at places lo to hi - 1, layer by layer, read.
 fn read_layer(
     ws: &mut [u32],
     w: &[u32],
@@ -105,7 +106,7 @@ fn read_layer(
     }
 }
 
-// The operations at the places from lo up to hi, which have read, store their outputs, in this order.
+// The same operations, which have read, store their outputs, in this order.
 fn store_layer(
     ws: &mut [u32],
     w: &[u32],
@@ -153,7 +154,7 @@ fn run_layer(
     store_layer(ws, w, x, sl, sv, tl, tv, lo, hi);
 }
 
-// Layer after layer.
+// All layers, one after the other.
 pub fn run_layers(
     ws: &mut [u32],
     w: &[u32],

@@ -116,7 +116,7 @@ pub record IsConvexSubgraph (c d : Drawing) (f : Maps) (ws ws' : List ℕ) (r : 
   pub no : r ≡ No → ¬ Convex c d f
   pub workspace : ws' ≡ leftOver (verdictRefusal r) (workspaceNeed d) ws
 
--- `eval`
+-- `eval`: the values at the outputs once all layers have run
 pub record Eval (d : Drawing) (b : Boundary) (values out out' ws ws' : List ℕ) (r : Done) : Type 0 where
   pub refusal : refusalOf r ≡ evalRefusal d b values (length out) (length ws)
   pub output : out' ≡ written (refusalOf r) (evaluated d b values) out

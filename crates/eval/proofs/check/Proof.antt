@@ -1,14 +1,13 @@
-use Rattle.rules.specs.Facts.EvalCall.{check-limits, limits-small, check-over, check-faulty, check-rooms}
+use Rattle.rules.specs.Facts.EvalCall.{check-limits, checked-drawing, check-over, check-faulty, check-rooms}
 use Rattle.rules.specs.Facts.Refusing.{fine-none, faulty-number}
+use Rattle.rules.specs.Inner.Checks.{boundaryListsRefusal}
 use Rattle.rules.specs.Inner.Evaluating.{earlyRefusal}
-use Rattle.rules.specs.Refusals.{within, boundaryWithin, valuesWithin, unless, workspaceNeed}
+use Rattle.rules.specs.Refusals.{within, boundaryWithin, valuesWithin, unless}
 use lib.Dec.{leb}
 use mathlib.Core.Bool.{Bool, true, false, _&&_}
-use Rattle.rules.specs.Drawing.{Drawing, Boundary, drawing, boundary, nodeCount, opCount, mostItems, mostValues}
+use Rattle.rules.specs.Drawing.{Drawing, Boundary, drawing, boundary}
 use lib.ListN.{length}
-use native.Mathlib.Omega.{arith}
 use mathlib.Core.Path.{_≡_, sym}
-use Prim.Native.Nat.{_≤_}
 use borrow.Author.Needs.{needs}
 use Rattle.eval.proofs.check.Statement.{statement}
 use Rattle.eval.proofs.check.Tie as tie
@@ -17,6 +16,7 @@ use Rattle.eval.proofs.check.Lts as lts
 use Rattle.hypergraph.proofs.check.boundary_within.Reads as boundary-within-reads
 use Rattle.hypergraph.proofs.check.check_boundary_lists.Reads as check-boundary-lists-reads
 use Rattle.hypergraph.proofs.check.counts_within.Reads as counts-within-reads
+use Rattle.hypergraph.proofs.check.workspace_need.Reads as workspace-need-reads
 
 module _ (s : tie.Start) where
   abbrev d : Drawing
@@ -33,13 +33,21 @@ module _ (c : tie.Then1) where
   held : within (d s) && boundaryWithin (b s) && valuesWithin (s .args .values .now) ≡ true
   held = check-limits (d s) (b s) (s .args .values .now) (s .args .lent) (s .args .words) (c .before .before .counts-within .result) (c .before .boundary-within .result) true (c .before .before .counts-within .ensures) (c .before .boundary-within .ensures) (c .if1 .taken)
 
-  small : (nodeCount (d s) ≤ mostItems) × (opCount (d s) ≤ mostItems) × (length (d s .sourceValues) ≤ mostValues) × (length (d s .targetValues) ≤ mostValues)
-  small = limits-small (d s) (b s) (s .args .values .now) (s .args .lent) (s .args .words) held
-
 -- 2, 3 and 12 are none
 module _ (c : tie.After-enum-told) where
-  tested : (t : Bool) → leb (length (s (c .before .before .before) .args .outputs .now)) (s (c .before .before .before) .args .lent) && leb (workspaceNeed (d (s (c .before .before .before)))) (s (c .before .before .before) .args .words) ≡ t → unless t 11 ≡ earlyRefusal (d (s (c .before .before .before))) (b (s (c .before .before .before))) (s (c .before .before .before) .args .values .now) (s (c .before .before .before) .args .lent) (s (c .before .before .before) .args .words)
-  tested t q = check-rooms (d (s (c .before .before .before))) (b (s (c .before .before .before))) (s (c .before .before .before) .args .values .now) (s (c .before .before .before) .args .lent) (s (c .before .before .before) .args .words) t (held (c .before .before .before)) (fine-none (c .before .before .check-boundary-lists .result) (c .before .before .check-boundary-lists .ensures) (cc)) (sym q)
+  abbrev t : tie.Then1
+  t = c .before .before .before
+
+  lists : boundaryListsRefusal (d (s t)) (b (s t)) ≡ 0
+  lists = fine-none (c .before .before .check-boundary-lists .result) (c .before .before .check-boundary-lists .ensures) (cc)
+
+-- W is known
+module _ (c : tie.After-workspace-need) where
+  abbrev e : tie.Start
+  e = s (t (c .before))
+
+  tested : (r : Bool) → leb (length (e .args .outputs .now)) (e .args .lent) && leb (c .workspace-need .result) (e .args .words) ≡ r → unless r 11 ≡ earlyRefusal (d e) (b e) (e .args .values .now) (e .args .lent) (e .args .words)
+  tested r q = check-rooms (d e) (b e) (e .args .values .now) (e .args .lent) (e .args .words) r (c .workspace-need .result) (c .workspace-need .ensures) (held (t (c .before))) (lists (c .before)) (sym q)
 
 counts-within-requires : tie.Need-counts-within-requires
 counts-within-requires c κs = search needs
@@ -56,23 +64,8 @@ enum-known-why c = search needs
 enum-told : tie.Need-enum-told
 enum-told c = search needs
 
-add-need : tie.Need-add-need
-add-need c = search needs
-
-mul-need : tie.Need-mul-need
-mul-need c = omega (arith, small (c .before .before .before))
-
-add-need-2 : tie.Need-add-need-2
-add-need-2 c = search needs
-
-mul-need-2 : tie.Need-mul-need-2
-mul-need-2 c = search needs
-
-add-need-3 : tie.Need-add-need-3
-add-need-3 c = omega (arith, small (c .before .before .before))
-
-add-need-4 : tie.Need-add-need-4
-add-need-4 c = omega (arith, small (c .before .before .before))
+workspace-need-requires : tie.Need-workspace-need-requires
+workspace-need-requires c κs = let s = s (t c) in checked-drawing (d s) (b s) (s .args .values .now) (s .args .lent) (s .args .words) (held (t c)) (lists c)
 
 returns : tie.Need-returns
 returns c = let t = c .before .before .before .before in check-faulty (d (s t)) (b (s t)) (s t .args .values .now) (s t .args .lent) (s t .args .words) (c .before .why .given .0 .0) (held t) (faulty-number (c .before .before .before .check-boundary-lists .result) (c .before .why .given .0 .0) (c .before .before .before .check-boundary-lists .ensures) (cc))
@@ -95,12 +88,7 @@ check-spec =
     check-boundary-lists-requires
     enum-known-why
     enum-told
-    add-need
-    mul-need
-    add-need-2
-    mul-need-2
-    add-need-3
-    add-need-4
+    workspace-need-requires
     returns
     returns-2
     returns-3

@@ -6,7 +6,7 @@ use lib.Seq.{length-take-le}
 use Rattle.rules.specs.Drawing.{Drawing, Boundary, drawing, boundary, Accepted}
 use lib.ListN.{length, length-take}
 use native.Mathlib.Omega.{arith}
-use mathlib.Core.Path.{_≡_}
+use mathlib.Core.Path.{_≡_, _∙_}
 use Prim.Native.Nat.{_≤_}
 use borrow.Author.Needs.{needs}
 use Rattle.eval.proofs.eval.Statement.{statement}
@@ -14,6 +14,7 @@ use Rattle.eval.proofs.eval.Tie as tie
 use Rattle.eval.proofs.eval.Reads as reads
 use Rattle.eval.proofs.eval.Lts as lts
 use Rattle.eval.proofs.check.Reads as check-reads
+use Rattle.hypergraph.proofs.check.workspace_need.Reads as workspace-need-reads
 use Rattle.eval.proofs.evaluate.Reads as evaluate-reads
 
 module _ (s : tie.Start) where
@@ -40,6 +41,11 @@ module _ (c : tie.After-enum-told) where
   output-fits : length (s .args .outputs .now) ≤ length (s .args .out .now)
   output-fits = passed-output (d s) (b s) (s .args .values .now) (length (s .args .out .now)) (length (s .args .ws .now)) none
 
+-- W is known
+module _ (c : tie.After-workspace-need) where
+  words-lent : c .workspace-need .result ≤ length (s (c .before) .args .ws .now)
+  words-lent = omega (arith, c .workspace-need .ensures, words-fit (c .before))
+
 check-requires : tie.Need-check-requires
 check-requires c κs = search needs
 
@@ -49,40 +55,27 @@ enum-known-why c = search needs
 enum-told : tie.Need-enum-told
 enum-told c = search needs
 
-add-words : tie.Need-add-words
-add-words c = search needs
-
-mul-words : tie.Need-mul-words
-mul-words c = let a = accepted c in omega (arith, a .fewNodes, a .fewOps)
-
-add-words-2 : tie.Need-add-words-2
-add-words-2 c = search needs
-
-mul-words-2 : tie.Need-mul-words-2
-mul-words-2 c = search needs
-
-add-words-3 : tie.Need-add-words-3
-add-words-3 c = let a = accepted c in omega (arith, a .fewNodes, a .fewOps, a .sources .room, a .targets .room)
-
-add-words-4 : tie.Need-add-words-4
-add-words-4 c = let a = accepted c in omega (arith, a .fewNodes, a .fewOps, a .sources .room, a .targets .room)
+workspace-need-requires : tie.Need-workspace-need-requires
+workspace-need-requires c κs = accepted c
 
 slice-relend-prefix-evaluate : tie.Need-slice-relend-prefix-evaluate
-slice-relend-prefix-evaluate c = words-fit c
+slice-relend-prefix-evaluate c = words-lent c
 
 slice-aggregate-evaluate : tie.Need-slice-aggregate-evaluate
-slice-aggregate-evaluate c = simp length-take (omega (arith, words-fit (c .before)))
+slice-aggregate-evaluate c = simp length-take (omega (arith, words-lent (c .before)))
 
 slice-relend-prefix-evaluate-2 : tie.Need-slice-relend-prefix-evaluate-2
-slice-relend-prefix-evaluate-2 c = output-fits (c .before)
+slice-relend-prefix-evaluate-2 c = output-fits (c .before .before)
 
 slice-aggregate-evaluate-2 : tie.Need-slice-aggregate-evaluate-2
-slice-aggregate-evaluate-2 c = simp length-take (omega (arith, output-fits (c .before .before)))
+slice-aggregate-evaluate-2 c = simp length-take (omega (arith, output-fits (c .before .before .before)))
 
 evaluate-requires : tie.Need-evaluate-requires
-evaluate-requires c κs = let t = c .before .before in
+evaluate-requires c κs =
+    let n = c .before .before in
+    let t = n .before in
     let s = s t in
-    ((accepted t, length-take-le (workspaceNeed (d s)) (s .args .ws .now) (words-fit t)), (passed-boundary (d s) (b s) (s .args .values .now) (length (s .args .out .now)) (length (s .args .ws .now)) (none t), length-take-le (length (s .args .outputs .now)) (s .args .out .now) (output-fits t)))
+    ((accepted t, length-take-le (n .workspace-need .result) (s .args .ws .now) (words-lent n) ∙ n .workspace-need .ensures), (passed-boundary (d s) (b s) (s .args .values .now) (length (s .args .out .now)) (length (s .args .ws .now)) (none t), length-take-le (length (s .args .outputs .now)) (s .args .out .now) (output-fits t)))
 
 returns : tie.Need-returns
 returns c = let s = c .before .before .before .before .before .before .before .before .before .before .before .before .before .before .before in eval-refused (d s) (b s) (s .args .values .now) (s .args .out .now) (s .args .ws .now) (c .before .why .given .0 .0) (faulty-number (c .before .before .before .check .result) (c .before .why .given .0 .0) (c .before .before .before .check .ensures) (cc))
@@ -94,7 +87,11 @@ same-length-2 : tie.Need-same-length-2
 same-length-2 c = search needs
 
 returns-2 : tie.Need-returns-2
-returns-2 c = let s = c .before .before .before .before .before .before .before .before .before .before .before .before .before .before .before .before .before .before .before .before .before in eval-done (d s) (b s) (s .args .values .now) (s .args .out .now) (s .args .ws .now) (c .before .before .before .before .evaluate .last .1 .1 .1 .1 .1 .1 .1 .1 .1 .1 .0) (c .before .before .before .before .evaluate .last .0) (c .before .before .before .before .evaluate .result) (none (c .before .before .before .before .before .before .before)) (c .before .before .before .before .evaluate .ensures)
+returns-2 c =
+    let v = c .before .before .before .before in
+    let n = v .before .before .before in
+    let s = s (n .before) in
+    eval-done (d s) (b s) (s .args .values .now) (s .args .out .now) (s .args .ws .now) (v .evaluate .last .1 .1 .1 .1 .1 .1 .1 .1 .1 .1 .0) (v .evaluate .last .0) (v .evaluate .result) (n .workspace-need .result) (n .workspace-need .ensures) (none (n .before)) (v .evaluate .ensures)
 
 pub eval-spec : {M : Type 1} → statement M
 eval-spec =
@@ -103,12 +100,7 @@ eval-spec =
     check-requires
     enum-known-why
     enum-told
-    add-words
-    mul-words
-    add-words-2
-    mul-words-2
-    add-words-3
-    add-words-4
+    workspace-need-requires
     slice-relend-prefix-evaluate
     slice-aggregate-evaluate
     slice-relend-prefix-evaluate-2

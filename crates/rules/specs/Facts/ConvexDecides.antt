@@ -66,11 +66,11 @@ module _ (c d : Drawing) (f : Maps) where
         let q = convex-early c d f (length ws) (number why) e (number-some why) in
         promised (answers-refused (Convex c d f) (convexRefusal c d f (length ws)) (workspaceNeed d) ws why (sym q) (rw (q, e) (inputs-early c d f)))
 
-    pub convex-no-room : arrowInputsRefusal c d f ≡ 0 → length ws < workspaceNeed d → IsConvexSubgraph c d f ws ws (Refused ShortRoom)
-    convex-no-room e h =
-        let q = convex-short c d f (length ws) e h in
+    pub convex-no-room : (words : ℕ) → words ≡ workspaceNeed d → arrowInputsRefusal c d f ≡ 0 → length ws < words → IsConvexSubgraph c d f ws ws (Refused ShortRoom)
+    convex-no-room words n e h =
+        let q = convex-short c d f (length ws) e (rw n at h) in
         promised (answers-refused (Convex c d f) (convexRefusal c d f (length ws)) (workspaceNeed d) ws ShortRoom (sym q) (rw q (inr refl)))
 
-    pub convex-decided : (l : List ℕ) (r : Bool) → arrowInputsRefusal c d f ≡ 0 → workspaceNeed d ≤ length ws → Decides (Convex c d f) (workspaceNeed d) l r
-        → IsConvexSubgraph c d f ws (l ++ drop (workspaceNeed d) ws) (cond r Yes No)
-    convex-decided l r e h p = promised (answers-decided (Convex c d f) (convexRefusal c d f (length ws)) (workspaceNeed d) ws l r (convex-enough c d f (length ws) e h) p)
+    pub convex-decided : (l : List ℕ) (r : Bool) (words : ℕ) → words ≡ workspaceNeed d → arrowInputsRefusal c d f ≡ 0 → words ≤ length ws → Decides (Convex c d f) (workspaceNeed d) l r
+        → IsConvexSubgraph c d f ws (l ++ drop words ws) (cond r Yes No)
+    convex-decided l r words n e h p = rw n (promised (answers-decided (Convex c d f) (convexRefusal c d f (length ws)) (workspaceNeed d) ws l r (convex-enough c d f (length ws) e (rw n at h)) p))

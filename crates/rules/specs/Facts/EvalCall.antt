@@ -1,25 +1,23 @@
 -- The call `eval` in its parts, return by return.
-use Prim.Native.Nat.{ℕ, zero, suc, _+_, _-_, _*_, _≤_, _<_}
+use Prim.Native.Nat.{ℕ, zero, suc, _+_, _*_, _≤_, _<_}
 use native.Mathlib.Omega.{arith}
 use mathlib.Core.Bool.{Bool, true, false, _&&_, cond}
 use mathlib.Core.List.{List, [], _∷_, _++_, map, append-nil, List·Memᴰ·head, List·Memᴰ·tail}
 use mathlib.Core.Logic.{inl}
 use mathlib.Core.Path.{_≡_, refl, sym, ap, _∙_}
 use lib.ListN.{length, getD, take, drop, replicate, length-map, length-replicate, length-take, drop-of-length-le, take-append-drop}
-use lib.Seq.{length-take-le}
 use lib.Dec.{leb}
-use borrow.Author.Tests.{leb-true, leb-false, le-leb, lt-leb}
+use borrow.Author.Tests.{leb-true}
 use Rattle.rules.specs.Lists.{_∈_, all, range, has, seg, sum, at}
-use Rattle.rules.specs.Drawing.{Drawing, Boundary, Accepted, opCount, nodeCount, AcceptedBoundary, mostItems, mostValues}
+use Rattle.rules.specs.Drawing.{Drawing, Boundary, Accepted, opCount, nodeCount, AcceptedBoundary, mostItems}
 use Rattle.rules.specs.declared.Done.{Done}
 use Rattle.rules.specs.declared.Done.the-variants.{Fine, Faulty}
 use Rattle.rules.specs.declared.Refusal.{Refusal}
-use Rattle.rules.specs.declared.Refusal.the-variants.{OverLimit, ShortRoom}
 use Rattle.rules.specs.Facts.Segments.{back-length, back-seg-before, back-before, back-in, back-seg, seg-length}
 use Rattle.rules.specs.Inner.Evaluating.{lateRefusal, lateBy, suitsBy, Prepared, earlyRefusal, Attempted, earlyChecks, Evaluated}
 use Rattle.rules.specs.Refusals.{workspaceNeed, early, firstOf, unless, within, number, shortRoom, lengthsFit, boundaryWithin, written, valuesWithin, valuesStand, refusalOf, badLengths, boundaryStands, badValue, badBoundary}
 use Rattle.rules.specs.Analysis.{marks, layers, orders}
-use Rattle.rules.specs.Facts.Tests.{∈-all, not-both, first-none, all-∈, unless-none, both, all-four}
+use Rattle.rules.specs.Facts.Tests.{∈-all, not-both, first-none, all-∈, unless-none, both}
 use Rattle.rules.specs.Inner.Layering.{Layering}
 use Rattle.rules.specs.Evaluation.{suitsAt, unplacedOp, wrongOperation, evaluated, storeAll, startMemory, run}
 use Rattle.rules.specs.Facts.Member.{∈-range, range-∈}
@@ -231,11 +229,14 @@ module _ (d : Drawing) (b : Boundary) (values : List ℕ) (lent words : ℕ) whe
   pub check-limits : (r t v : Bool) → r ≡ within d → t ≡ boundaryWithin b → r && t && leb (length values) mostItems ≡ v → limits ≡ v
   check-limits r t v p q e = rw (← p, ← q) e
 
-  pub limits-small : limits ≡ true → (nodeCount d ≤ mostItems) × (opCount d ≤ mostItems) × (length (d .sourceValues) ≤ mostValues) × (length (d .targetValues) ≤ mostValues)
-  limits-small e =
+  -- what has passed 1, 2, 3 and 12 is a valid drawing
+  pub checked-drawing : limits ≡ true → boundaryListsRefusal d b ≡ 0 → Accepted d
+  unfolding boundaryListsRefusal
+  checked-drawing e q =
       let w = (both (within d) (boundaryWithin b) ((both (within d && boundaryWithin b) (valuesWithin values) e) .0)) .0 in
-      let p = all-four (leb (nodeCount d) mostItems) (leb (opCount d) mostItems) (leb (length (d .sourceValues)) mostValues) (leb (length (d .targetValues)) mostValues) w in
-      (leb-true _ _ (p .0), leb-true _ _ (p .1), leb-true _ _ (p .2), leb-true _ _ (p .3))
+      let p₁ = first-none (badLengths d) (badValue d ∷ badBoundary d b ∷ []) q in
+      let p₂ = first-none (badValue d) (badBoundary d b ∷ []) (p₁ .1) in
+      tests-accept d w (unless-none (lengthsFit d) 2 (omega arith) (p₁ .0)) (unless-none (valuesStand d) 3 (omega arith) (p₂ .0))
 
   pub check-over : limits ≡ false → 1 ≡ earlyRefusal d b values lent words
   unfolding earlyRefusal
@@ -245,9 +246,9 @@ module _ (d : Drawing) (b : Boundary) (values : List ℕ) (lent words : ℕ) whe
   unfolding earlyRefusal boundaryListsRefusal
   check-faulty why e q = rw e (sym (first-append (badLengths d ∷ badValue d ∷ badBoundary d b ∷ []) rooms (number why) q (number-some why)))
 
-  pub check-rooms : (t : Bool) → limits ≡ true → boundaryListsRefusal d b ≡ 0 → t ≡ leb (length (b .outputs)) lent && leb (workspaceNeed d) words → unless t 11 ≡ earlyRefusal d b values lent words
+  pub check-rooms : (t : Bool) (need : ℕ) → need ≡ workspaceNeed d → limits ≡ true → boundaryListsRefusal d b ≡ 0 → t ≡ leb (length (b .outputs)) lent && leb need words → unless t 11 ≡ earlyRefusal d b values lent words
   unfolding earlyRefusal boundaryListsRefusal
-  check-rooms t e q s = rw e (sym (first-behind (badLengths d ∷ badValue d ∷ badBoundary d b ∷ []) rooms q ∙ rw s (both-rooms (leb (length (b .outputs)) lent) (leb (workspaceNeed d) words))))
+  check-rooms t need n e q h = let s = rw n at h in rw e (sym (first-behind (badLengths d ∷ badValue d ∷ badBoundary d b ∷ []) rooms q ∙ rw s (both-rooms (leb (length (b .outputs)) lent) (leb (workspaceNeed d) words))))
     where
       both-rooms : (p q : Bool) → firstOf (unless p 11 ∷ unless q 11 ∷ []) ≡ unless (p && q) 11
       both-rooms true true = refl
@@ -315,14 +316,15 @@ module _ (d : Drawing) (b : Boundary) (values out ws : List ℕ) where
         workspace = early-left (number why) (workspaceNeed d) ws (rw e early-early) (number-some why);
       }
 
-  pub eval-done : (out₁ ws₁ : List ℕ) (r : Done) → earlyRefusal d b values (length out) (length ws) ≡ 0 → Evaluated d b values (take (length (b .outputs)) out) out₁ ws₁ r
-      → Eval d b values out (out₁ ++ drop (length (b .outputs)) out) ws (ws₁ ++ drop (workspaceNeed d) ws) r
+  pub eval-done : (out₁ ws₁ : List ℕ) (r : Done) (words : ℕ) → words ≡ workspaceNeed d → earlyRefusal d b values (length out) (length ws) ≡ 0
+      → Evaluated d b values (take (length (b .outputs)) out) out₁ ws₁ r
+      → Eval d b values out (out₁ ++ drop (length (b .outputs)) out) ws (ws₁ ++ drop words ws) r
   unfolding evalRefusal earlyRefusal lateRefusal
-  eval-done out₁ ws₁ r e p =
+  eval-done out₁ ws₁ r words n e p =
       record {
         refusal = p .refusal ∙ sym (first-behind before (unplacedOp d ∷ wrongOperation d ∷ []) e);
         output = kept (refusalOf r) (p .output);
-        workspace = rw (p .clear, p .refusal, late-clears d);
+        workspace = rw (n, p .clear, p .refusal, late-clears d);
       }
     where
       kept : (k : ℕ) → out₁ ≡ written k (evaluated d b values) (take (length (b .outputs)) out) → out₁ ++ drop (length (b .outputs)) out ≡ written k (evaluated d b values) out

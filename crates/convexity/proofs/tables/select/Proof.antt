@@ -19,7 +19,7 @@ module _ (c : tie.After-slice-known2) where
   abbrev k : ℕ
   k = length (s .args .flags .now)
 
-  flagging : Flagging (s .args .n) k (k - s .args .n) (s .args .x .now) (s .args .flags .now) (c .before .before .fill .last .0)
+  flagging : Flagging (s .args .n) k (k - s .args .n) (s .args .fx .now) (s .args .flags .now) (c .before .before .fill .last .0)
   flagging = record { nodes = s .pre .0 .0; long = refl; low = s .pre .1; p-is = refl; cleared = c .before .before .fill .ensures }
 
 sub-m : tie.Need-sub-m

@@ -4,7 +4,7 @@ use mathlib.Core.List.{List}
 use native.Mathlib.Omega.{arith}
 use lib.ListN.{length, getD, take}
 use lib.Seq.{take-all}
-use Rattle.convexity.specs.Layers.{rowsOf, tableOf}
+use Rattle.convexity.specs.Stages.{rowsOf, tableOf}
 use Rattle.rules.specs.Inner.Search.{Followed, fullTable, otherTable}
 use Rattle.rules.specs.Inner.Table.{successors}
 use Rattle.rules.specs.Inner.Walk.{Laid}
@@ -20,20 +20,20 @@ use Rattle.convexity.proofs.walk.leads.Reads as leads-reads
 use Rattle.convexity.proofs.walk.reach.Reads as reach-reads
 
 abbrev Inv-loop : tie.InvT-loop
-Inv-loop ws₀ n k b c layer i tail via count len₀ p₀ ws len p =
-    (count ≡ length (successors (rowsOf layer n k) (tableOf layer (otherTable b c ws₀) (fullTable b ws₀)) i))
-    × Followed k c tail (take p (successors (rowsOf layer n k) (tableOf layer (otherTable b c ws₀) (fullTable b ws₀)) i)) ws₀ len ws
+Inv-loop ws₀ n k b c stage i tail via count len₀ p₀ ws len p =
+    (count ≡ length (successors (rowsOf stage n k) (tableOf stage (otherTable b c ws₀) (fullTable b ws₀)) i))
+    × Followed k c tail (take p (successors (rowsOf stage n k) (tableOf stage (otherTable b c ws₀) (fullTable b ws₀)) i)) ws₀ len ws
 
 abbrev μ-loop : tie.MeasureT-loop
-μ-loop ws₀ n k b c layer i tail via count len₀ p₀ ws len p = count - p
+μ-loop ws₀ n k b c stage i tail via count len₀ p₀ ws len p = count - p
 
 -- the row that is followed
 module _ (s : tie.Start Inv-loop μ-loop) where
   abbrev rows : ℕ
-  rows = rowsOf (s .args .layer) (s .args .n) (s .args .k)
+  rows = rowsOf (s .args .stage) (s .args .n) (s .args .k)
 
   abbrev table : List ℕ → List ℕ
-  table ws = tableOf (s .args .layer) (otherTable (s .args .b) (s .args .c) ws) (fullTable (s .args .b) ws)
+  table ws = tableOf (s .args .stage) (otherTable (s .args .b) (s .args .c) ws) (fullTable (s .args .b) ws)
 
   abbrev row : List ℕ
   row = successors rows (table (s .args .ws .now)) (s .args .i)

@@ -1,5 +1,5 @@
 use mathlib.Core.Path.{_≡_}
-use Rattle.convexity.specs.declared.Layer.the-variants.{Inside, Outside}
+use Rattle.convexity.specs.declared.Stage.the-variants.{Inside, Outside}
 use borrow.Author.Needs.{needs}
 use Rattle.convexity.proofs.walk.leaving.Statement.{statement}
 use Rattle.convexity.proofs.walk.leaving.Tie as tie
@@ -11,19 +11,19 @@ enum-told : tie.Need-enum-told
 enum-told c = search needs
 
 row-requires : tie.Need-row-requires
-row-requires c κs = let s = c .before .before .before .before in let e : s .args .layer ≡ Inside = cc in rw e at (s .pre)
+row-requires c κs = let s = c .before .before .before .before in let e : s .args .stage ≡ Inside = cc in rw e at (s .pre)
 
 enum-told-2 : tie.Need-enum-told-2
 enum-told-2 c = search needs
 
 row-requires-2 : tie.Need-row-requires-2
-row-requires-2 c κs = let s = c .before .before .before .before in let e : s .args .layer ≡ Outside = cc in rw e at (s .pre)
+row-requires-2 c κs = let s = c .before .before .before .before in let e : s .args .stage ≡ Outside = cc in rw e at (s .pre)
 
 returns : tie.Need-returns
-returns c = let s = c .before .before .before .before .before in let e : s .args .layer ≡ Inside = cc in rw e (c .row .ensures)
+returns c = let s = c .before .before .before .before .before in let e : s .args .stage ≡ Inside = cc in rw e (c .row .ensures)
 
 returns-2 : tie.Need-returns-2
-returns-2 c = let s = c .before .before .before .before .before in let e : s .args .layer ≡ Outside = cc in rw e (c .row2 .ensures)
+returns-2 c = let s = c .before .before .before .before .before in let e : s .args .stage ≡ Outside = cc in rw e (c .row2 .ensures)
 
 pub leaving-spec : {M : Type 1} → statement M
 leaving-spec =
