@@ -34,7 +34,7 @@ fn check_arrow_lists(
         Done::Fine => match hypergraph::check::check_lists(dw, dx, dsl, dsv, dtl, dtv) {
             Done::Faulty(why) => Done::Faulty(why),
             Done::Fine => {
-                if hypergraph::check::entries_stand(fw, wd, fx, xd) {
+                if hypergraph::check::entries_below(fw, wd, fx, xd) {
                     Done::Fine
                 } else {
                     Done::Faulty(Refusal::BadEntry)

@@ -29,7 +29,7 @@ fn any_marked(marks: &[u32], list: &[u32]) -> bool
 }
 
 // Decides it, in W words of workspace, which it clears. The nodes fw and the operations fx are selected.
-pub fn has_road(
+pub(crate) fn has_road(
     ws: &mut [u32],
     w: &[u32],
     x: &[u32],

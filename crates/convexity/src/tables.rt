@@ -71,7 +71,7 @@ fn select(flags: &mut [u32], n: usize, fx: &[u32])
 }
 
 // Both tables, in the first words of a workspace. The operations fx are selected.
-pub fn tables(
+pub(crate) fn tables(
     ws: &mut [u32],
     w: &[u32],
     x: &[u32],

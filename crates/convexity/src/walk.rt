@@ -112,7 +112,7 @@ fn seed(ws: &mut [u32], n: usize, k: usize, b: usize, c: usize, w: &[u32]) -> us
 }
 
 // Marks every item that can be reached from w by a first step inside and any number of later ones outside.
-pub fn walk(ws: &mut [u32], n: usize, k: usize, b: usize, c: usize, w: &[u32])
+pub(crate) fn walk(ws: &mut [u32], n: usize, k: usize, b: usize, c: usize, w: &[u32])
     requires { ⌜ Laid k c (now ws) ⌝ }
     requires { ⌜ Pair n k b c (now ws) × (n ≤ k) × ((v : ℕ) → v ∈ now w → v < n) ⌝ }
     ensures { λ _. ⌜ Found (successors k (fullTable b (now (ws .entry)))) (successors n (otherTable b c (now (ws .entry)))) (now (w .entry)) (marksAt k c (now (ws .exit))) ⌝ }

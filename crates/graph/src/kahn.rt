@@ -90,7 +90,7 @@ fn follow(ws: &mut [u32], k: usize, b: usize, head: usize, tail: usize) -> usize
 }
 
 // How many of the k items are neither on a cycle nor behind one. Degrees and depths tell which, and their orders.
-pub fn kahn(ws: &mut [u32], k: usize, b: usize) -> usize
+pub(crate) fn kahn(ws: &mut [u32], k: usize, b: usize) -> usize
     requires { ⌜ Laid k b (now ws) ⌝ }
     requires { ⌜ Table k (take b (now ws)) ⌝ }
     ensures { λ r. ⌜ Walked (successors k (take b (now (ws .entry)))) k r (degreesOf k b (now (ws .exit))) (depthsOf k b (now (ws .exit))) ⌝ }

@@ -5,7 +5,7 @@ use rules::Done;
 use rules::Refusal;
 ghost use mathlib.Core.Path.{_≡_};
 ghost use Rattle.rules.specs.Drawing.{Accepted, drawing, maps, boundary};
-ghost use Rattle.rules.specs.Refusals.{refusalOf, workspaceNeed, within, lengthsFit, valuesStand, mapsWithin, entriesStand, boundaryWithin, boundaryStands};
+ghost use Rattle.rules.specs.Refusals.{refusalOf, workspaceNeed, within, lengthsFit, valuesBelow, mapsWithin, entriesBelow, boundaryWithin, boundaryBelow};
 ghost use Rattle.rules.specs.Promises.{CheckDrawing, CheckMaps, CheckBoundary};
 ghost use Rattle.rules.specs.Inner.Checks.{listsRefusal, boundaryListsRefusal};
 
@@ -27,8 +27,8 @@ fn lengths_fit(w: &[u32], x: &[u32], sl: &[u32], sv: &[u32], tl: &[u32], tv: &[u
 }
 
 // 3: whether each value is a node.
-fn values_stand(w: &[u32], x: &[u32], sl: &[u32], sv: &[u32], tl: &[u32], tv: &[u32]) -> bool
-    ensures { λ r. ⌜ r ≡ valuesStand (drawing (now (w .entry)) (now (x .entry)) (now (sl .entry)) (now (sv .entry)) (now (tl .entry)) (now (tv .entry))) ⌝ }
+fn values_below(w: &[u32], x: &[u32], sl: &[u32], sv: &[u32], tl: &[u32], tv: &[u32]) -> bool
+    ensures { λ r. ⌜ r ≡ valuesBelow (drawing (now (w .entry)) (now (x .entry)) (now (sl .entry)) (now (sv .entry)) (now (tl .entry)) (now (tv .entry))) ⌝ }
 {
     array::all_below(sv, w.len()) & array::all_below(tv, w.len())
 }
@@ -38,9 +38,9 @@ pub fn check_lists(w: &[u32], x: &[u32], sl: &[u32], sv: &[u32], tl: &[u32], tv:
     ensures { λ r. ⌜ refusalOf r ≡ listsRefusal (drawing (now (w .entry)) (now (x .entry)) (now (sl .entry)) (now (sv .entry)) (now (tl .entry)) (now (tv .entry))) ⌝ }
 {
     let fit = lengths_fit(w, x, sl, sv, tl, tv);
-    let stand = values_stand(w, x, sl, sv, tl, tv);
+    let below = values_below(w, x, sl, sv, tl, tv);
     if fit {
-        if stand {
+        if below {
             Done::Fine
         } else {
             Done::Faulty(Refusal::BadValue)
@@ -77,8 +77,8 @@ pub fn maps_within(fw: &[u32], wd: u32, fx: &[u32], xd: u32) -> bool
 }
 
 // 4: whether each entry is below its map's declared target.
-pub fn entries_stand(fw: &[u32], wd: u32, fx: &[u32], xd: u32) -> bool
-    ensures { λ r. ⌜ r ≡ entriesStand (maps (now (fw .entry)) wd (now (fx .entry)) xd) ⌝ }
+pub fn entries_below(fw: &[u32], wd: u32, fx: &[u32], xd: u32) -> bool
+    ensures { λ r. ⌜ r ≡ entriesBelow (maps (now (fw .entry)) wd (now (fx .entry)) xd) ⌝ }
 {
     array::all_below(fw, wd as usize) & array::all_below(fx, xd as usize)
 }
@@ -88,7 +88,7 @@ pub fn check_maps(fw: &[u32], wd: u32, fx: &[u32], xd: u32) -> Done
     ensures { λ r. ⌜ CheckMaps (maps (now (fw .entry)) wd (now (fx .entry)) xd) r ⌝ }
 {
     if maps_within(fw, wd, fx, xd) {
-        if entries_stand(fw, wd, fx, xd) {
+        if entries_below(fw, wd, fx, xd) {
             Done::Fine
         } else {
             Done::Faulty(Refusal::BadEntry)
@@ -106,8 +106,8 @@ pub fn boundary_within(inputs: &[u32], outputs: &[u32]) -> bool
 }
 
 // 12: whether each entry of a boundary is one of n nodes.
-pub fn boundary_stands(n: usize, inputs: &[u32], outputs: &[u32]) -> bool
-    ensures { λ r. ⌜ r ≡ boundaryStands n (boundary (now (inputs .entry)) (now (outputs .entry))) ⌝ }
+pub(crate) fn boundary_below(n: usize, inputs: &[u32], outputs: &[u32]) -> bool
+    ensures { λ r. ⌜ r ≡ boundaryBelow n (boundary (now (inputs .entry)) (now (outputs .entry))) ⌝ }
 {
     array::all_below(inputs, n) & array::all_below(outputs, n)
 }
@@ -128,7 +128,7 @@ pub fn check_boundary_lists(
     match check_lists(w, x, sl, sv, tl, tv) {
         Done::Faulty(why) => Done::Faulty(why),
         Done::Fine => {
-            if boundary_stands(w.len(), inputs, outputs) {
+            if boundary_below(w.len(), inputs, outputs) {
                 Done::Fine
             } else {
                 Done::Faulty(Refusal::BadBoundary)

@@ -84,18 +84,18 @@ abbrev pub badLengths : Drawing → ℕ
 badLengths d = unless (lengthsFit d) 2
 
 -- 3: a source or target value is not below n
-abbrev pub valuesStand : Drawing → Bool
-valuesStand d = allBelow (d .sourceValues) (nodeCount d) && allBelow (d .targetValues) (nodeCount d)
+abbrev pub valuesBelow : Drawing → Bool
+valuesBelow d = allBelow (d .sourceValues) (nodeCount d) && allBelow (d .targetValues) (nodeCount d)
 
 abbrev pub badValue : Drawing → ℕ
-badValue d = unless (valuesStand d) 3
+badValue d = unless (valuesBelow d) 3
 
 -- 4: a map entry is not below its declared target
-abbrev pub entriesStand : Maps → Bool
-entriesStand f = allBelow (nodesOf f) (f .w .target) && allBelow (opsOf f) (f .x .target)
+abbrev pub entriesBelow : Maps → Bool
+entriesBelow f = allBelow (nodesOf f) (f .w .target) && allBelow (opsOf f) (f .x .target)
 
 abbrev pub badEntry : Maps → ℕ
-badEntry f = unless (entriesStand f) 4
+badEntry f = unless (entriesBelow f) 4
 
 -- 5, 6: w has not n(source) entries or declares a target other than n(target); likewise for x
 abbrev pub typeMismatchW : Drawing → Drawing → Maps → ℕ
@@ -131,11 +131,11 @@ abbrev pub mapsNeed : Maps → ℕ
 mapsNeed f = max (f .w .target) (f .x .target)
 
 -- 12: a boundary entry is not below n
-abbrev pub boundaryStands : ℕ → Boundary → Bool
-boundaryStands n b = allBelow (b .inputs) n && allBelow (b .outputs) n
+abbrev pub boundaryBelow : ℕ → Boundary → Bool
+boundaryBelow n b = allBelow (b .inputs) n && allBelow (b .outputs) n
 
 abbrev pub badBoundary : Drawing → Boundary → ℕ
-badBoundary d b = unless (boundaryStands (nodeCount d) b) 12
+badBoundary d b = unless (boundaryBelow (nodeCount d) b) 12
 
 -- Calls refused with 1, 2, 3, 4, 11 or 12 leave the workspace untouched.
 -- Every other call leaves its first W words zero and the rest untouched.

@@ -11,12 +11,12 @@ use borrow.Author.Tests.{leb-true, le-leb, eqb-true, eq-eqb}
 use Rattle.rules.specs.Lists.{sum, allBelow}
 use Rattle.rules.specs.Drawing.{Drawing, Accepted, Maps, AcceptedMaps, Boundary, AcceptedBoundary, mostItems, mostValues, nodeCount, opCount}
 use Rattle.rules.specs.Maps.{nodesOf, opsOf}
-use Rattle.rules.specs.Refusals.{unless, within, lengthsFit, valuesStand, badLengths, badValue, mapsWithin, entriesStand, badEntry, boundaryWithin, boundaryStands, badBoundary}
+use Rattle.rules.specs.Refusals.{unless, within, lengthsFit, valuesBelow, badLengths, badValue, mapsWithin, entriesBelow, badEntry, boundaryWithin, boundaryBelow, badBoundary}
 use Rattle.rules.specs.Calls.{drawingRefusal, mapsRefusal, boundaryRefusal}
 use Rattle.rules.specs.Facts.Tests.{both, both-hold, all-four, four-hold, allBelow-∈, ∈-allBelow, first-none, none-first, unless-none, none-unless}
 
 -- the three tests together
-pub tests-accept : (d : Drawing) → within d ≡ true → lengthsFit d ≡ true → valuesStand d ≡ true → Accepted d
+pub tests-accept : (d : Drawing) → within d ≡ true → lengthsFit d ≡ true → valuesBelow d ≡ true → Accepted d
 tests-accept d a b c =
     let p = all-four (leb (nodeCount d) mostItems) (leb (opCount d) mostItems) (leb (length (d .sourceValues)) mostValues) (leb (length (d .targetValues)) mostValues) a in
     let q = all-four (eqb (length (d .sourceLengths)) (opCount d)) (eqb (sum (d .sourceLengths)) (length (d .sourceValues))) (eqb (length (d .targetLengths)) (opCount d)) (eqb (sum (d .targetLengths)) (length (d .targetValues))) b in
@@ -39,7 +39,7 @@ module _ (d : Drawing) (a : Accepted d) where
       four-hold (eqb (length (d .sourceLengths)) (opCount d)) (eqb (sum (d .sourceLengths)) (length (d .sourceValues))) (eqb (length (d .targetLengths)) (opCount d)) (eqb (sum (d .targetLengths)) (length (d .targetValues)))
       (eq-eqb _ _ (a .sources .count)) (eq-eqb _ _ (a .sources .total)) (eq-eqb _ _ (a .targets .count)) (eq-eqb _ _ (a .targets .total))
 
-  pub values-hold : valuesStand d ≡ true
+  pub values-hold : valuesBelow d ≡ true
   values-hold =
       both-hold (allBelow (d .sourceValues) (nodeCount d)) (allBelow (d .targetValues) (nodeCount d))
       (∈-allBelow (d .sourceValues) (nodeCount d) (a .sources .below)) (∈-allBelow (d .targetValues) (nodeCount d) (a .targets .below))
@@ -52,11 +52,11 @@ accepted-iff d = (
       let p = first-none (unless (within d) 1) (badLengths d ∷ badValue d ∷ []) e in
       let q = first-none (badLengths d) (badValue d ∷ []) (p .1) in
       let r = first-none (badValue d) [] (q .1) in
-      tests-accept d (unless-none (within d) 1 (omega arith) (p .0)) (unless-none (lengthsFit d) 2 (omega arith) (q .0)) (unless-none (valuesStand d) 3 (omega arith) (r .0)),
+      tests-accept d (unless-none (within d) 1 (omega arith) (p .0)) (unless-none (lengthsFit d) 2 (omega arith) (q .0)) (unless-none (valuesBelow d) 3 (omega arith) (r .0)),
   λ a.
       none-first (unless (within d) 1) (badLengths d ∷ badValue d ∷ []) (none-unless (within d) 1 (within-holds d a))
       (none-first (badLengths d) (badValue d ∷ []) (none-unless (lengthsFit d) 2 (lengths-hold d a))
-      (none-first (badValue d) [] (none-unless (valuesStand d) 3 (values-hold d a)) refl)),
+      (none-first (badValue d) [] (none-unless (valuesBelow d) 3 (values-hold d a)) refl)),
 )
 
 -- maps are refused with neither 1 nor 4 exactly if they are valid
@@ -67,7 +67,7 @@ maps-iff f = (
       let p = first-none (unless (mapsWithin f) 1) (badEntry f ∷ []) e in
       let q = first-none (badEntry f) [] (p .1) in
       let a = all-four (leb (f .w .target) mostItems) (leb (length (nodesOf f)) mostItems) (leb (f .x .target) mostItems) (leb (length (opsOf f)) mostItems) (unless-none (mapsWithin f) 1 (omega arith) (p .0)) in
-      let b = both (allBelow (nodesOf f) (f .w .target)) (allBelow (opsOf f) (f .x .target)) (unless-none (entriesStand f) 4 (omega arith) (q .0)) in
+      let b = both (allBelow (nodesOf f) (f .w .target)) (allBelow (opsOf f) (f .x .target)) (unless-none (entriesBelow f) 4 (omega arith) (q .0)) in
       record {
         nodeMap = record { fewTargets = leb-true _ _ (a .0); fewEntries = leb-true _ _ (a .1); below = λ u m. allBelow-∈ (b .0) m };
         opMap = record { fewTargets = leb-true _ _ (a .2); fewEntries = leb-true _ _ (a .3); below = λ u m. allBelow-∈ (b .1) m };
@@ -78,13 +78,13 @@ maps-iff f = (
       (four-hold (leb (f .w .target) mostItems) (leb (length (nodesOf f)) mostItems) (leb (f .x .target) mostItems) (leb (length (opsOf f)) mostItems)
       (le-leb _ _ (a .nodeMap .fewTargets)) (le-leb _ _ (a .nodeMap .fewEntries)) (le-leb _ _ (a .opMap .fewTargets)) (le-leb _ _ (a .opMap .fewEntries))))
       (none-first (badEntry f) []
-      (none-unless (entriesStand f) 4
+      (none-unless (entriesBelow f) 4
       (both-hold (allBelow (nodesOf f) (f .w .target)) (allBelow (opsOf f) (f .x .target))
       (∈-allBelow (nodesOf f) (f .w .target) (a .nodeMap .below)) (∈-allBelow (opsOf f) (f .x .target) (a .opMap .below)))) refl),
 )
 
 -- the two tests of a boundary together
-pub tests-bound : (n : ℕ) (b : Boundary) → boundaryWithin b ≡ true → boundaryStands n b ≡ true → AcceptedBoundary n b
+pub tests-bound : (n : ℕ) (b : Boundary) → boundaryWithin b ≡ true → boundaryBelow n b ≡ true → AcceptedBoundary n b
 tests-bound n b p q =
     let a = both (leb (length (b .inputs)) mostItems) (leb (length (b .outputs)) mostItems) p in
     let c = both (allBelow (b .inputs) n) (allBelow (b .outputs) n) q in
@@ -100,8 +100,8 @@ boundary-iff d b = (
       let r = first-none (badValue d) (badBoundary d b ∷ []) (q .1) in
       let s = first-none (badBoundary d b) [] (r .1) in
       let w = both (within d) (boundaryWithin b) (unless-none (within d && boundaryWithin b) 1 (omega arith) (p .0)) in (
-        tests-accept d (w .0) (unless-none (lengthsFit d) 2 (omega arith) (q .0)) (unless-none (valuesStand d) 3 (omega arith) (r .0)),
-        tests-bound (nodeCount d) b (w .1) (unless-none (boundaryStands (nodeCount d) b) 12 (omega arith) (s .0)),
+        tests-accept d (w .0) (unless-none (lengthsFit d) 2 (omega arith) (q .0)) (unless-none (valuesBelow d) 3 (omega arith) (r .0)),
+        tests-bound (nodeCount d) b (w .1) (unless-none (boundaryBelow (nodeCount d) b) 12 (omega arith) (s .0)),
       ),
   λ a.
       none-first (unless (within d && boundaryWithin b) 1) (badLengths d ∷ badValue d ∷ badBoundary d b ∷ [])
@@ -109,9 +109,9 @@ boundary-iff d b = (
       (both-hold (within d) (boundaryWithin b) (within-holds d (a .0))
       (both-hold (leb (length (b .inputs)) mostItems) (leb (length (b .outputs)) mostItems) (le-leb _ _ (a .1 .fewInputs)) (le-leb _ _ (a .1 .fewOutputs)))))
       (none-first (badLengths d) (badValue d ∷ badBoundary d b ∷ []) (none-unless (lengthsFit d) 2 (lengths-hold d (a .0)))
-      (none-first (badValue d) (badBoundary d b ∷ []) (none-unless (valuesStand d) 3 (values-hold d (a .0)))
+      (none-first (badValue d) (badBoundary d b ∷ []) (none-unless (valuesBelow d) 3 (values-hold d (a .0)))
       (none-first (badBoundary d b) []
-      (none-unless (boundaryStands (nodeCount d) b) 12
+      (none-unless (boundaryBelow (nodeCount d) b) 12
       (both-hold (allBelow (b .inputs) (nodeCount d)) (allBelow (b .outputs) (nodeCount d))
       (∈-allBelow (b .inputs) (nodeCount d) (a .1 .inputsBelow)) (∈-allBelow (b .outputs) (nodeCount d) (a .1 .outputsBelow)))) refl))),
 )

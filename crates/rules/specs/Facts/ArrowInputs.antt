@@ -8,7 +8,7 @@ use mathlib.Core.Path.{_≡_, refl, sym, _∙_}
 use Rattle.rules.specs.declared.Refusal.{Refusal}
 use Rattle.rules.specs.Drawing.{Drawing, Maps, Accepted, AcceptedMaps}
 use Rattle.rules.specs.Inner.Arrow.{arrowInputsRefusal, arrowListsRefusal}
-use Rattle.rules.specs.Refusals.{badLengths, unless, within, mapsWithin, badValue, workspaceNeed, badEntry, entriesStand, firstOf, shortRoom, lengthsFit, valuesStand, number}
+use Rattle.rules.specs.Refusals.{badLengths, unless, within, mapsWithin, badValue, workspaceNeed, badEntry, entriesBelow, firstOf, shortRoom, lengthsFit, valuesBelow, number}
 use Rattle.rules.specs.Inner.Checks.{listsRefusal}
 use Rattle.rules.specs.Calls.{mapsRefusal, validateRefusal, convexRefusal, naturalRefusal}
 use Rattle.rules.specs.Facts.Refusing.{Early, first-append, early-first, early-unless, first-behind, enough, short, number-some}
@@ -35,7 +35,7 @@ module _ (c d : Drawing) (f : Maps) where
   target-faulty why p e =
       sym (first-behind (badLengths c ∷ badValue c ∷ []) of-d p ∙ first-append (badLengths d ∷ badValue d ∷ []) (badEntry f ∷ []) (number why) e (number-some why))
 
-  pub entries-tested : (r : Bool) → listsRefusal c ≡ 0 → listsRefusal d ≡ 0 → r ≡ entriesStand f → unless r 4 ≡ arrowListsRefusal c d f
+  pub entries-tested : (r : Bool) → listsRefusal c ≡ 0 → listsRefusal d ≡ 0 → r ≡ entriesBelow f → unless r 4 ≡ arrowListsRefusal c d f
   unfolding listsRefusal arrowListsRefusal
   entries-tested r p q e =
       sym (first-behind (badLengths c ∷ badValue c ∷ []) of-d p ∙ first-behind (badLengths d ∷ badValue d ∷ []) (badEntry f ∷ []) q ∙ rw (← e) (alone r))
@@ -56,8 +56,8 @@ module _ (c d : Drawing) (f : Maps) where
       let p6 = first-none (badEntry f) [] (p5 .1) in
       let w = both (within c && within d) (mapsWithin f) (unless-none all-within 1 (omega arith) (p1 .0)) in
       let v = both (within c) (within d) (w .0) in (
-        tests-accept c (v .0) (unless-none (lengthsFit c) 2 (omega arith) (p2 .0)) (unless-none (valuesStand c) 3 (omega arith) (p3 .0)),
-        tests-accept d (v .1) (unless-none (lengthsFit d) 2 (omega arith) (p4 .0)) (unless-none (valuesStand d) 3 (omega arith) (p5 .0)),
+        tests-accept c (v .0) (unless-none (lengthsFit c) 2 (omega arith) (p2 .0)) (unless-none (valuesBelow c) 3 (omega arith) (p3 .0)),
+        tests-accept d (v .1) (unless-none (lengthsFit d) 2 (omega arith) (p4 .0)) (unless-none (valuesBelow d) 3 (omega arith) (p5 .0)),
         (maps-iff f) .0 (none-first (unless (mapsWithin f) 1) (badEntry f ∷ []) (none-unless (mapsWithin f) 1 (w .1)) (p5 .1)),
       )
 
@@ -66,10 +66,10 @@ module _ (c d : Drawing) (f : Maps) where
   inputs-early =
       early-first (unless all-within 1) (badLengths c ∷ badValue c ∷ of-d) (early-unless all-within 1 refl)
       (early-first (badLengths c) (badValue c ∷ of-d) (early-unless (lengthsFit c) 2 refl)
-      (early-first (badValue c) of-d (early-unless (valuesStand c) 3 refl)
+      (early-first (badValue c) of-d (early-unless (valuesBelow c) 3 refl)
       (early-first (badLengths d) (badValue d ∷ badEntry f ∷ []) (early-unless (lengthsFit d) 2 refl)
-      (early-first (badValue d) (badEntry f ∷ []) (early-unless (valuesStand d) 3 refl)
-      (early-first (badEntry f) [] (early-unless (entriesStand f) 4 refl) (inl refl))))))
+      (early-first (badValue d) (badEntry f ∷ []) (early-unless (valuesBelow d) 3 refl)
+      (early-first (badEntry f) [] (early-unless (entriesBelow f) 4 refl) (inl refl))))))
 
   -- validation: one of 1 to 4, or 5 to 10
   pub validate-early : (k : ℕ) → k ≡ arrowInputsRefusal c d f → ¬ (k ≡ 0) → validateRefusal c d f ≡ k

@@ -11,7 +11,7 @@ use Rattle.rules.specs.Facts.ArrowInputs.{convex-early, convex-enough, i
 use Rattle.rules.specs.declared.Verdict.{Verdict}
 use Rattle.rules.specs.declared.Verdict.the-variants.{Yes, No, Refused}
 use Rattle.rules.specs.Drawing.{Drawing, Maps, Accepted, AcceptedMaps}
-use Rattle.rules.specs.Refusals.{verdictRefusal, workspaceNeed, unless, shortRoom, mapsWithin, badEntry, within, badLengths, badValue, lengthsFit, valuesStand}
+use Rattle.rules.specs.Refusals.{verdictRefusal, workspaceNeed, unless, shortRoom, mapsWithin, badEntry, within, badLengths, badValue, lengthsFit, valuesBelow}
 use Rattle.rules.specs.Facts.Refusing.{number-some, first-behind, enough}
 use Rattle.rules.specs.Promises.{IsConvexSubgraph, IsAcyclic}
 use Rattle.rules.specs.Calls.{convexRefusal, acyclicRefusal, drawingRefusal, mapsRefusal}
@@ -47,9 +47,9 @@ accepted-inputs c d f ac ad am =
     none-first (unless (within c && within d && mapsWithin f) 1) (badLengths c ∷ badValue c ∷ badLengths d ∷ badValue d ∷ badEntry f ∷ [])
     (none-unless (within c && within d && mapsWithin f) 1 (both-hold (within c && within d) (mapsWithin f) w (unless-none (mapsWithin f) 1 (omega arith) (m .0))))
     (none-first (badLengths c) (badValue c ∷ badLengths d ∷ badValue d ∷ badEntry f ∷ []) (none-unless (lengthsFit c) 2 (lengths-hold c ac))
-    (none-first (badValue c) (badLengths d ∷ badValue d ∷ badEntry f ∷ []) (none-unless (valuesStand c) 3 (values-hold c ac))
+    (none-first (badValue c) (badLengths d ∷ badValue d ∷ badEntry f ∷ []) (none-unless (valuesBelow c) 3 (values-hold c ac))
     (none-first (badLengths d) (badValue d ∷ badEntry f ∷ []) (none-unless (lengthsFit d) 2 (lengths-hold d ad))
-    (none-first (badValue d) (badEntry f ∷ []) (none-unless (valuesStand d) 3 (values-hold d ad)) (m .1)))))
+    (none-first (badValue d) (badEntry f ∷ []) (none-unless (valuesBelow d) 3 (values-hold d ad)) (m .1)))))
 
 module _ {c d : Drawing} {f : Maps} {ws ws' vs vs' : List ℕ} {r q : Verdict} (convex : IsConvexSubgraph c d f ws ws' r)
     (acyclic : IsAcyclic (fold d (nodesOf f) (opsOf f)) vs vs' q) (natural : Natural c d f) (injective : Monomorphism f) (noCycle : Acyclic d) where

@@ -15,7 +15,7 @@ use Rattle.rules.specs.declared.Done.the-variants.{Fine, Faulty}
 use Rattle.rules.specs.declared.Refusal.{Refusal}
 use Rattle.rules.specs.Facts.Segments.{back-length, back-seg-before, back-before, back-in, back-seg, seg-length}
 use Rattle.rules.specs.Inner.Evaluating.{lateRefusal, lateBy, suitsBy, Prepared, earlyRefusal, Attempted, earlyChecks, Evaluated}
-use Rattle.rules.specs.Refusals.{workspaceNeed, early, firstOf, unless, within, number, shortRoom, lengthsFit, boundaryWithin, written, valuesWithin, valuesStand, refusalOf, badLengths, boundaryStands, badValue, badBoundary}
+use Rattle.rules.specs.Refusals.{workspaceNeed, early, firstOf, unless, within, number, shortRoom, lengthsFit, boundaryWithin, written, valuesWithin, valuesBelow, refusalOf, badLengths, boundaryBelow, badValue, badBoundary}
 use Rattle.rules.specs.Analysis.{marks, layers, orders}
 use Rattle.rules.specs.Facts.Tests.{∈-all, not-both, first-none, all-∈, unless-none, both}
 use Rattle.rules.specs.Inner.Layering.{Layering}
@@ -236,7 +236,7 @@ module _ (d : Drawing) (b : Boundary) (values : List ℕ) (lent words : ℕ) whe
       let w = (both (within d) (boundaryWithin b) ((both (within d && boundaryWithin b) (valuesWithin values) e) .0)) .0 in
       let p₁ = first-none (badLengths d) (badValue d ∷ badBoundary d b ∷ []) q in
       let p₂ = first-none (badValue d) (badBoundary d b ∷ []) (p₁ .1) in
-      tests-accept d w (unless-none (lengthsFit d) 2 (omega arith) (p₁ .0)) (unless-none (valuesStand d) 3 (omega arith) (p₂ .0))
+      tests-accept d w (unless-none (lengthsFit d) 2 (omega arith) (p₁ .0)) (unless-none (valuesBelow d) 3 (omega arith) (p₂ .0))
 
   pub check-over : limits ≡ false → 1 ≡ earlyRefusal d b values lent words
   unfolding earlyRefusal
@@ -257,7 +257,7 @@ module _ (d : Drawing) (b : Boundary) (values : List ℕ) (lent words : ℕ) whe
 
   -- what passes them is valid, and the rooms are enough
   module _ (none : earlyRefusal d b values lent words ≡ 0) where
-    all-none : (limits ≡ true) × (lengthsFit d ≡ true) × (valuesStand d ≡ true) × (boundaryStands (nodeCount d) b ≡ true) × (length (b .outputs) ≤ lent) × (workspaceNeed d ≤ words)
+    all-none : (limits ≡ true) × (lengthsFit d ≡ true) × (valuesBelow d ≡ true) × (boundaryBelow (nodeCount d) b ≡ true) × (length (b .outputs) ≤ lent) × (workspaceNeed d ≤ words)
     unfolding earlyRefusal
     all-none =
         let p₁ = first-none (unless limits 1) (badLengths d ∷ badValue d ∷ badBoundary d b ∷ rooms) none in
@@ -268,8 +268,8 @@ module _ (d : Drawing) (b : Boundary) (values : List ℕ) (lent words : ℕ) whe
         let p₆ = first-none (shortRoom (workspaceNeed d) words) [] (p₅ .1) in (
           unless-none limits 1 (omega arith) (p₁ .0),
           unless-none (lengthsFit d) 2 (omega arith) (p₂ .0),
-          unless-none (valuesStand d) 3 (omega arith) (p₃ .0),
-          unless-none (boundaryStands (nodeCount d) b) 12 (omega arith) (p₄ .0),
+          unless-none (valuesBelow d) 3 (omega arith) (p₃ .0),
+          unless-none (boundaryBelow (nodeCount d) b) 12 (omega arith) (p₄ .0),
           leb-true (length (b .outputs)) lent (unless-none (leb (length (b .outputs)) lent) 11 (omega arith) (p₅ .0)),
           leb-true (workspaceNeed d) words (unless-none (leb (workspaceNeed d) words) 11 (omega arith) (p₆ .0)),
         )
@@ -302,8 +302,8 @@ module _ (d : Drawing) (b : Boundary) (values out ws : List ℕ) where
   early-early =
       early-first (unless (within d && boundaryWithin b && valuesWithin values) 1) (badLengths d ∷ badValue d ∷ badBoundary d b ∷ lentRooms) (early-unless (within d && boundaryWithin b && valuesWithin values) 1 refl)
       (early-first (badLengths d) (badValue d ∷ badBoundary d b ∷ lentRooms) (early-unless (lengthsFit d) 2 refl)
-      (early-first (badValue d) (badBoundary d b ∷ lentRooms) (early-unless (valuesStand d) 3 refl)
-      (early-first (badBoundary d b) lentRooms (early-unless (boundaryStands (nodeCount d) b) 12 refl)
+      (early-first (badValue d) (badBoundary d b ∷ lentRooms) (early-unless (valuesBelow d) 3 refl)
+      (early-first (badBoundary d b) lentRooms (early-unless (boundaryBelow (nodeCount d) b) 12 refl)
       (early-first (shortRoom (length (b .outputs)) (length out)) (shortRoom (workspaceNeed d) (length ws) ∷ []) (early-unless (leb (length (b .outputs)) (length out)) 11 refl)
       (early-first (shortRoom (workspaceNeed d) (length ws)) [] (early-unless (leb (workspaceNeed d) (length ws)) 11 refl) (inl refl))))))
 

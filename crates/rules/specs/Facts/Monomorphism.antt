@@ -15,7 +15,7 @@ use Rattle.rules.specs.declared.Verdict.the-variants.{Yes, No, Refused}
 use Rattle.rules.specs.Inner.Decides.{Decides, Answers}
 use Rattle.rules.specs.Drawing.{Maps}
 use Rattle.rules.specs.Calls.{monomorphismRefusal, mapsRefusal}
-use Rattle.rules.specs.Refusals.{unless, number, mapsNeed, mapsWithin, badEntry, shortRoom, entriesStand}
+use Rattle.rules.specs.Refusals.{unless, number, mapsNeed, mapsWithin, badEntry, shortRoom, entriesBelow}
 use Rattle.rules.specs.Maps.{Injective, nodesOf, opsOf}
 use Rattle.rules.specs.Facts.Refusing.{Early, early-first, first-append, early-unless, first-behind, short, number-some, enough}
 use Rattle.rules.specs.Facts.Tests.{not-both}
@@ -33,7 +33,7 @@ module _ (f : Maps) (ws : List ℕ) where
   unfolding monomorphismRefusal
   mono-early =
       early-first (unless (mapsWithin f) 1) (badEntry f ∷ shortRoom (mapsNeed f) (length ws) ∷ []) (early-unless (mapsWithin f) 1 refl)
-      (early-first (badEntry f) (shortRoom (mapsNeed f) (length ws) ∷ []) (early-unless (entriesStand f) 4 refl)
+      (early-first (badEntry f) (shortRoom (mapsNeed f) (length ws) ∷ []) (early-unless (entriesBelow f) 4 refl)
       (early-first (shortRoom (mapsNeed f) (length ws)) [] (early-unless (leb (mapsNeed f) (length ws)) 11 refl) (inl refl)))
 
   promised : {ws' : List ℕ} {r : Verdict} → Answers (Injective (nodesOf f) × Injective (opsOf f)) refused (mapsNeed f) ws ws' r → IsMonomorphism f ws ws' r

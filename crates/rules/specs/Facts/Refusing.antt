@@ -10,7 +10,7 @@ use Rattle.rules.specs.Lists.{has}
 use Rattle.rules.specs.Drawing.{Drawing, Boundary, nodeCount}
 use Rattle.rules.specs.declared.Done.{Done}
 use Rattle.rules.specs.declared.Done.the-variants.{Fine, Faulty}
-use Rattle.rules.specs.Refusals.{number, refusalOf, firstOf, unless, shortRoom, within, lengthsFit, valuesStand, badLengths, badValue, early, leftOver, written, badBoundary, boundaryStands}
+use Rattle.rules.specs.Refusals.{number, refusalOf, firstOf, unless, shortRoom, within, lengthsFit, valuesBelow, badLengths, badValue, early, leftOver, written, badBoundary, boundaryBelow}
 use Rattle.rules.specs.Calls.{drawingRefusal}
 use Rattle.rules.specs.Inner.Checks.{listsRefusal, boundaryListsRefusal}
 use Rattle.rules.specs.declared.Refusal.{Refusal}
@@ -88,13 +88,13 @@ refused-keeps k new out n = rw (ne-eqb k 0 n)
 -- 2, then 3; and with 1 before them
 pub lists-early : (d : Drawing) → Early (listsRefusal d)
 unfolding listsRefusal
-lists-early d = early-first (badLengths d) (badValue d ∷ []) (early-unless (lengthsFit d) 2 refl) (early-first (badValue d) [] (early-unless (valuesStand d) 3 refl) (inl refl))
+lists-early d = early-first (badLengths d) (badValue d ∷ []) (early-unless (lengthsFit d) 2 refl) (early-first (badValue d) [] (early-unless (valuesBelow d) 3 refl) (inl refl))
 
 pub drawing-early : (d : Drawing) → Early (drawingRefusal d)
 unfolding drawingRefusal
 drawing-early d =
     early-first (unless (within d) 1) (badLengths d ∷ badValue d ∷ []) (early-unless (within d) 1 refl)
-    (early-first (badLengths d) (badValue d ∷ []) (early-unless (lengthsFit d) 2 refl) (early-first (badValue d) [] (early-unless (valuesStand d) 3 refl) (inl refl)))
+    (early-first (badLengths d) (badValue d ∷ []) (early-unless (lengthsFit d) 2 refl) (early-first (badValue d) [] (early-unless (valuesBelow d) 3 refl) (inl refl)))
 
 -- 12 behind 2 and 3
 module _ (d : Drawing) (b : Boundary) where
@@ -102,7 +102,7 @@ module _ (d : Drawing) (b : Boundary) where
   unfolding listsRefusal boundaryListsRefusal
   bound-faulty why e = sym (first-append (badLengths d ∷ badValue d ∷ []) (badBoundary d b ∷ []) (number why) e (number-some why))
 
-  pub bound-tested : (r : Bool) → listsRefusal d ≡ 0 → r ≡ boundaryStands (nodeCount d) b → unless r 12 ≡ boundaryListsRefusal d b
+  pub bound-tested : (r : Bool) → listsRefusal d ≡ 0 → r ≡ boundaryBelow (nodeCount d) b → unless r 12 ≡ boundaryListsRefusal d b
   unfolding listsRefusal boundaryListsRefusal
   bound-tested r e q = sym (first-behind (badLengths d ∷ badValue d ∷ []) (badBoundary d b ∷ []) e ∙ rw (← q) (alone r))
     where

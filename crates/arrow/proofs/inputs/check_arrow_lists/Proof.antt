@@ -13,7 +13,7 @@ use Rattle.arrow.proofs.inputs.check_arrow_lists.Tie as tie
 use Rattle.arrow.proofs.inputs.check_arrow_lists.Reads as reads
 use Rattle.arrow.proofs.inputs.check_arrow_lists.Lts as lts
 use Rattle.hypergraph.proofs.check.check_lists.Reads as check-lists-reads
-use Rattle.hypergraph.proofs.check.entries_stand.Reads as entries-stand-reads
+use Rattle.hypergraph.proofs.check.entries_below.Reads as entries-below-reads
 
 module _ (s : tie.Start) where
   abbrev c₀ : Drawing
@@ -39,11 +39,11 @@ module _ (c : tie.After-check-lists2) where
   target-fine q = fine-none (c .check-lists2 .result) (c .check-lists2 .ensures) q
 
 -- both are fine
-module _ (c : tie.After-entries-stand) where
-  tested : (v : Bool) → c .entries-stand .result ≡ v → unless v 4 ≡ arrowListsRefusal (c₀ (s (c .before .before .before .before .before .before))) (d₀ (s (c .before .before .before .before .before .before))) (f₀ (s (c .before .before .before .before .before .before)))
+module _ (c : tie.After-entries-below) where
+  tested : (v : Bool) → c .entries-below .result ≡ v → unless v 4 ≡ arrowListsRefusal (c₀ (s (c .before .before .before .before .before .before))) (d₀ (s (c .before .before .before .before .before .before))) (f₀ (s (c .before .before .before .before .before .before)))
   tested v q =
       let l = c .before .before .before .before .before .before in
-      entries-tested (c₀ (s l)) (d₀ (s l)) (f₀ (s l)) v (source-fine l (cc)) (target-fine (c .before .before .before) (cc)) (sym q ∙ c .entries-stand .ensures)
+      entries-tested (c₀ (s l)) (d₀ (s l)) (f₀ (s l)) v (source-fine l (cc)) (target-fine (c .before .before .before) (cc)) (sym q ∙ c .entries-below .ensures)
 
 check-lists-requires : tie.Need-check-lists-requires
 check-lists-requires c κs = search needs
@@ -63,8 +63,8 @@ enum-known-why-2 c = search needs
 enum-told-2 : tie.Need-enum-told-2
 enum-told-2 c = search needs
 
-entries-stand-requires : tie.Need-entries-stand-requires
-entries-stand-requires c κs = search needs
+entries-below-requires : tie.Need-entries-below-requires
+entries-below-requires c κs = search needs
 
 returns : tie.Need-returns
 returns c =
@@ -94,7 +94,7 @@ check-arrow-lists-spec =
     check-lists-requires-2
     enum-known-why-2
     enum-told-2
-    entries-stand-requires
+    entries-below-requires
     returns
     returns-2
     returns-3

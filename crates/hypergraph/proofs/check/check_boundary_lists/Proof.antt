@@ -9,7 +9,7 @@ use Rattle.hypergraph.proofs.check.check_boundary_lists.Statement.{stat
 use Rattle.hypergraph.proofs.check.check_boundary_lists.Tie as tie
 use Rattle.hypergraph.proofs.check.check_boundary_lists.Reads as reads
 use Rattle.hypergraph.proofs.check.check_boundary_lists.Lts as lts
-use Rattle.hypergraph.proofs.check.boundary_stands.Reads as boundary-stands-reads
+use Rattle.hypergraph.proofs.check.boundary_below.Reads as boundary-below-reads
 use Rattle.hypergraph.proofs.check.check_lists.Reads as check-lists-reads
 
 module _ (s : tie.Start) where
@@ -20,15 +20,15 @@ module _ (s : tie.Start) where
   b = boundary (s .args .inputs .now) (s .args .outputs .now)
 
 -- 2 and 3 are none
-module _ (c : tie.After-boundary-stands) where
+module _ (c : tie.After-boundary-below) where
   abbrev s : tie.Start
   s = c .before .before .before .before .before .before .before .before .before .before .before .before
 
-  tested : (v : Bool) → c .boundary-stands .result ≡ v → unless v 12 ≡ boundaryListsRefusal (d s) (b s)
+  tested : (v : Bool) → c .boundary-below .result ≡ v → unless v 12 ≡ boundaryListsRefusal (d s) (b s)
   tested v q =
       bound-tested (d s) (b s) v
       (fine-none (c .before .before .before .check-lists .result) (c .before .before .before .check-lists .ensures) (cc))
-      (sym q ∙ c .boundary-stands .ensures)
+      (sym q ∙ c .boundary-below .ensures)
 
 check-lists-requires : tie.Need-check-lists-requires
 check-lists-requires c κs = search needs
@@ -39,8 +39,8 @@ enum-known-why c = search needs
 enum-told : tie.Need-enum-told
 enum-told c = search needs
 
-boundary-stands-requires : tie.Need-boundary-stands-requires
-boundary-stands-requires c κs = search needs
+boundary-below-requires : tie.Need-boundary-below-requires
+boundary-below-requires c κs = search needs
 
 returns : tie.Need-returns
 returns c =
@@ -60,7 +60,7 @@ check-boundary-lists-spec =
     check-lists-requires
     enum-known-why
     enum-told
-    boundary-stands-requires
+    boundary-below-requires
     returns
     returns-2
     returns-3)
