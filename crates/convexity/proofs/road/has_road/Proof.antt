@@ -1,8 +1,9 @@
-use Prim.Native.Nat.{ℕ, _+_, _-_}
+use Prim.Native.Nat.{ℕ, _+_, _-_, _<_}
 use mathlib.Core.List.{List}
 use mathlib.Core.Path.{_≡_, _∙_}
 use native.Mathlib.Omega.{arith}
 use lib.ListN.{length}
+use Rattle.rules.specs.Lists.{_∈_}
 use Rattle.rules.specs.Drawing.{Drawing, drawing}
 use Rattle.rules.specs.Refusals.{workspaceNeed}
 use Rattle.rules.specs.Inner.Incidence.{items}
@@ -22,6 +23,13 @@ use Rattle.convexity.proofs.walk.walk.Reads as walk-reads
 module _ (s : tie.Start) where
   abbrev d : Drawing
   d = drawing (s .args .w .now) (s .args .x .now) (s .args .sl .now) (s .args .sv .now) (s .args .tl .now) (s .args .tv .now)
+
+  -- as numbers of items both selections are in range
+  node-low : (v : ℕ) → v ∈ s .args .fw .now → v < items d
+  node-low v m = omega (arith, s .pre .1 .0 .0 v m)
+
+  op-low : (v : ℕ) → v ∈ s .args .fx .now → v < items d
+  op-low v m = omega (arith, s .pre .1 .0 .1 .below v m)
 
 -- the tables stand
 module _ (c : tie.After-tables) where
@@ -88,7 +96,7 @@ part-any-marked-end : tie.Need-part-any-marked-end
 part-any-marked-end c = search needs
 
 any-marked-requires : tie.Need-any-marked-requires
-any-marked-requires c κs = let a = c .before .before .before .before in λ v m. omega (arith, s (t a) .pre .1 .0 .0 v m, seg-length (marksFrom (d (s (t a)))) (items (d (s (t a)))) (a .walk .last .0) (omega (arith, long₂ a)))
+any-marked-requires c κs = let a = c .before .before .before .before in λ v m. let h : v < items (d (s (t a))) = search (node-low (s (t a)), op-low (s (t a))) in omega (arith, h, seg-length (marksFrom (d (s (t a)))) (items (d (s (t a)))) (a .walk .last .0) (omega (arith, long₂ a)))
 
 fill-requires : tie.Need-fill-requires
 fill-requires c κs = search needs

@@ -2,10 +2,12 @@ use Prim.Native.Nat.{ℕ, _<_, _≤_, _-_}
 use mathlib.Core.Path.{_≡_, refl, _∙_}
 use native.Mathlib.Omega.{arith}
 use lib.ListN.{length, getD}
-use Rattle.rules.specs.Inner.Search.{Pair, Searching}
+use Rattle.rules.specs.Lists.{_∈_}
+use Rattle.rules.specs.Inner.Table.{successors}
+use Rattle.rules.specs.Inner.Search.{Pair, Searching, Row, fullTable, otherTable}
 use Rattle.rules.specs.Inner.Walk.{Laid}
 use Rattle.rules.specs.Facts.Member.{getD-∈}
-use Rattle.rules.specs.Facts.Searching.{pair-same, searching-seed}
+use Rattle.rules.specs.Facts.Searching.{pair-same, searching-seed, table-row}
 use Rattle.rules.specs.Facts.Standing.{still-laid}
 use borrow.Author.Needs.{needs}
 use Rattle.convexity.proofs.walk.seed.Statement.{statement}
@@ -36,6 +38,19 @@ module _ (c : tie.In-loop Inv-loop μ-loop) where
   low : v < s .args .n
   low = s .pre .1 .0 .2 v (getD-∈ (s .args .w .now) (c .before .loop .q) (c .loop-test .taken))
 
+  -- v has a row in either table; that it is the row of the unselected operations which is followed, `loop-again` says
+  other-row : Row (s .args .n) (otherTable (s .args .b) (s .args .c) (c .before .loop .ws)) v
+  other-row = pair .rows v low
+
+  full-row : Row (s .args .k) (fullTable (s .args .b) (c .before .loop .ws)) v
+  full-row = table-row (pair .full) v (omega (arith, low, s .pre .1 .0 .1))
+
+  other-items : (j : ℕ) → j ∈ successors (s .args .n) (otherTable (s .args .b) (s .args .c) (c .before .loop .ws)) v → j < s .args .k
+  other-items j m = pair .items v j m
+
+  full-items : (j : ℕ) → j ∈ successors (s .args .k) (fullTable (s .args .b) (c .before .loop .ws)) v → j < s .args .k
+  full-items j m = pair .full .items v j m
+
 loop-holds : tie.Need-loop-holds Inv-loop μ-loop
 loop-holds c = let s = c .before .before in (omega arith, refl, s .pre .1 .1)
 
@@ -49,7 +64,7 @@ cast-v : tie.Need-cast-v Inv-loop μ-loop
 cast-v c = omega (arith, c .shared-slice-known2 .given (c .before .before .loop .q))
 
 follow-requires : tie.Need-follow-requires Inv-loop μ-loop
-follow-requires c κs = let l = c .before .before in (laid l, ((pair l .order, omega (arith, low l, s l .pre .1 .0 .1), l .before .loop .inv .2 .held), (pair l .rows (v l) (low l), λ j m. pair l .items (v l) j m)))
+follow-requires c κs = let l = c .before .before in (laid l, ((pair l .order, omega (arith, low l, s l .pre .1 .0 .1), l .before .loop .inv .2 .held), (search (other-row l, full-row l), λ j m. search (other-items l, full-items l))))
 
 add-q : tie.Need-add-q Inv-loop μ-loop
 add-q c = search needs

@@ -118,7 +118,10 @@ cast-i : tie.Need-cast-i Inv-loop μ-loop
 cast-i c = let l = c .before in omega (arith, c .slice-known4 .given (o (l .before) .args .c + o (l .before) .args .k + l .before .loop .head))
 
 follow-requires : tie.Need-follow-requires Inv-loop μ-loop
-follow-requires c κs = let l = c .before .before in (laid (l .before), ((pair (l .before) .order, low l, l .before .loop .inv .1 .held), (table-row (pair (l .before) .full) (i l) (low l), λ j m. pair (l .before) .full .items (i l) j m)))
+follow-requires c κs =
+    let l = c .before .before in
+    let held = l .before .loop .inv .1 .held in
+    (laid (l .before), ((pair (l .before) .order, omega (arith, low l, l .loop-test .taken, held .within), held), (table-row (pair (l .before) .full) _ (omega (arith, low l, l .loop-test .taken, held .within)), λ j m. pair (l .before) .full .items _ j m)))
 
 add-head : tie.Need-add-head Inv-loop μ-loop
 add-head c = search needs
