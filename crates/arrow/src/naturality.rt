@@ -1,6 +1,7 @@
 // Whether maps are natural: the refusals 5 to 10, in document 01's order. (In the Rust: `validate_hypergraph_morphism`.)
 //
 // Lists of one kind, sources or targets, are lengths and values: cl and cv of the source c, dl and dv of the target d.
+use indexed_coproduct::part;
 use rules::Done;
 use rules::Refusal;
 ghost use Prim.Native.Nat.{_<_};
@@ -33,11 +34,9 @@ fn list_carried(
     requires { ⌜ (e < length (now fx)) × (from ≡ sum (take e (now cl))) ⌝ }
     ensures { λ r. ⌜ r ≡ carriedList (now (fw .entry)) (now (fx .entry)) (now (cl .entry)) (now (cv .entry)) (now (dl .entry)) (now (dv .entry)) e ⌝ }
 {
-    let end = from + cl[e] as usize;
     let image = fx[e] as usize;
     let first = starts[image] as usize;
-    let last = first + dl[image] as usize;
-    array::same_through(fw, &cv[from..end], &dv[first..last])
+    array::same_through(fw, part(cl, cv, e, from), part(dl, dv, image, first))
 }
 
 // Whether every operation's list is carried to that of its image.

@@ -6,13 +6,14 @@ use lib.ListN.{length, getD, take}
 use Rattle.rules.specs.Lists.{at, sum}
 use Rattle.rules.specs.Inner.Arrow.{Carrying}
 use Rattle.rules.specs.Facts.Member.{getD-∈, ∈-part}
-use Rattle.rules.specs.Facts.Parts.{part-is, part-ends}
+use Rattle.rules.specs.Facts.Parts.{part-ends}
 use borrow.Author.Needs.{needs}
 use Rattle.arrow.proofs.naturality.list_carried.Statement.{statement}
 use Rattle.arrow.proofs.naturality.list_carried.Tie as tie
 use Rattle.arrow.proofs.naturality.list_carried.Reads as reads
 use Rattle.arrow.proofs.naturality.list_carried.Lts as lts
 use Rattle.array.proofs.same_through.Reads as same-through-reads
+use Rattle.indexed_coproduct.proofs.part.Reads as part-reads
 
 module _ (s : tie.Start) where
   abbrev w : List ℕ
@@ -48,9 +49,6 @@ module _ (s : tie.Start) where
   low : e < length cl
   low = omega (arith, fits .lists .count, s .pre .1 .1 .0)
 
-  end-in : from + getD cl e 0 ≤ length cv
-  end-in = part-ends cl cv e from (s .pre .1 .1 .1) (fits .lists .total) low
-
   image-low : image < length dl
   image-low = fits .images image (getD-∈ (s .args .fx .now) e (s .pre .1 .1 .0))
 
@@ -60,18 +58,6 @@ module _ (s : tie.Start) where
   last-in : first + getD dl image 0 ≤ length dv
   last-in = part-ends dl dv image first begins (fits .total) image-low
 
-mul-end : tie.Need-mul-end
-mul-end c = search needs
-
-shared-slice-read-end : tie.Need-shared-slice-read-end
-shared-slice-read-end c = search needs
-
-cast-end : tie.Need-cast-end
-cast-end c = let s = c .before .before .before .before .before .before .before .before in omega (arith, end-in s, fits s .lists .room)
-
-add-end : tie.Need-add-end
-add-end c = let s = c .before .before .before .before .before .before .before .before in omega (arith, end-in s, fits s .lists .room)
-
 mul-image : tie.Need-mul-image
 mul-image c = search needs
 
@@ -79,84 +65,40 @@ shared-slice-read-image : tie.Need-shared-slice-read-image
 shared-slice-read-image c = search needs
 
 cast-image : tie.Need-cast-image
-cast-image c = let s = c .before .before .before .before .before .before .before .before .before in omega (arith, image-low s, fits s .few)
+cast-image c = let s = c .before .before .before .before .before .before .before .before in omega (arith, image-low s, fits s .few)
 
 mul-first : tie.Need-mul-first
-mul-first c = let s = c .before .before .before .before .before .before .before .before .before in omega (arith, image-low s, fits s .few)
+mul-first c = let s = c .before .before .before .before .before .before .before .before in omega (arith, image-low s, fits s .few)
 
 shared-slice-read-first : tie.Need-shared-slice-read-first
-shared-slice-read-first c = let s = c .before .before .before .before .before .before .before .before .before .before in omega (arith, image-low s, s .pre .1 .0 .long)
+shared-slice-read-first c = let s = c .before .before .before .before .before .before .before .before .before in omega (arith, image-low s, s .pre .1 .0 .long)
 
 cast-first : tie.Need-cast-first
-cast-first c = let s = c .before .before .before .before .before .before .before .before .before .before in omega (arith, last-in s, fits s .room)
+cast-first c = let s = c .before .before .before .before .before .before .before .before .before in omega (arith, last-in s, fits s .room)
 
-mul-last : tie.Need-mul-last
-mul-last c = let s = c .before .before .before .before .before .before .before .before .before .before in omega (arith, image-low s, fits s .few)
+part-requires : tie.Need-part-requires
+part-requires c κs = let s = c .before .before .before .before .before .before .before .before .before in (low s, s .pre .1 .1 .1, fits s .lists .total)
 
-shared-slice-read-last : tie.Need-shared-slice-read-last
-shared-slice-read-last c = let s = c .before .before .before .before .before .before .before .before .before .before .before in omega (arith, image-low s)
-
-cast-last : tie.Need-cast-last
-cast-last c = let s = c .before .before .before .before .before .before .before .before .before .before .before in omega (arith, last-in s, fits s .room)
-
-add-last : tie.Need-add-last
-add-last c = let s = c .before .before .before .before .before .before .before .before .before .before .before in omega (arith, last-in s, fits s .room)
-
-mul-same-through : tie.Need-mul-same-through
-mul-same-through c = let s = c .before .before .before .before .before .before .before .before .before .before .before in omega (arith, end-in s, fits s .lists .room)
-
-sub-same-through : tie.Need-sub-same-through
-sub-same-through c = search needs
-
-part-same-through-start : tie.Need-part-same-through-start
-part-same-through-start c = search needs
-
-part-same-through-end : tie.Need-part-same-through-end
-part-same-through-end c = let s = c .before .before .before .before .before .before .before .before .before .before .before in omega (arith, end-in s, fits s .lists .room)
-
-mul-same-through-2 : tie.Need-mul-same-through-2
-mul-same-through-2 c = let s = c .before .before .before .before .before .before .before .before .before .before .before .before in omega (arith, last-in s, fits s .room)
-
-sub-same-through-2 : tie.Need-sub-same-through-2
-sub-same-through-2 c = search needs
-
-part-same-through-start-2 : tie.Need-part-same-through-start-2
-part-same-through-start-2 c = search needs
-
-part-same-through-end-2 : tie.Need-part-same-through-end-2
-part-same-through-end-2 c = let s = c .before .before .before .before .before .before .before .before .before .before .before .before in omega (arith, last-in s, fits s .room)
+part-requires-2 : tie.Need-part-requires-2
+part-requires-2 c κs = let s = c .before .before .before .before .before .before .before .before .before .before in (image-low s, begins s, fits s .total)
 
 same-through-requires : tie.Need-same-through-requires
-same-through-requires c κs = let s = c .before .before .before .before .before .before .before .before .before .before .before .before .before in λ u m. fits s .lists .below u (∈-part (cl s) (cv s) (e s) (rw (part-is (cl s) (cv s) (e s) (from s) (s .pre .1 .1 .1)) at m))
+same-through-requires c κs = let s = c .before .before .before .before .before .before .before .before .before .before .before in λ u m. fits s .lists .below u (∈-part (cl s) (cv s) (e s) (rw (c .before .part .ensures) at m))
 
 returns : tie.Need-returns
-returns c = let s = c .before .before .before .before .before .before .before .before .before .before .before .before .before .before in rw (part-is (dl s) (dv s) (image s) (first s) (begins s), part-is (cl s) (cv s) (e s) (from s) (s .pre .1 .1 .1)) at (c .same-through .ensures)
+returns c = rw (c .before .part2 .ensures, c .before .before .part .ensures) at (c .same-through .ensures)
 
 pub list-carried-spec : {M : Type 1} → statement M
 list-carried-spec =
     tie.close
     (tie.spec
-    mul-end
-    shared-slice-read-end
-    cast-end
-    add-end
     mul-image
     shared-slice-read-image
     cast-image
     mul-first
     shared-slice-read-first
     cast-first
-    mul-last
-    shared-slice-read-last
-    cast-last
-    add-last
-    mul-same-through
-    sub-same-through
-    part-same-through-start
-    part-same-through-end
-    mul-same-through-2
-    sub-same-through-2
-    part-same-through-start-2
-    part-same-through-end-2
+    part-requires
+    part-requires-2
     same-through-requires
     returns)
