@@ -199,12 +199,11 @@ pub fn node_adjacency(
         Size::Unsized(why) => Done::Faulty(why),
         Size::Entries(size) => {
             let words = workspace_need(w, x, sl, sv, tl, tv);
-            if (w.len() <= lens.len()) & (size as usize <= vals.len()) & (words <= ws.len()) {
-                write_nodes(&mut ws[..words], w, x, sl, sv, tl, tv, lens, vals);
-                Done::Fine
-            } else {
-                Done::Faulty(Refusal::ShortRoom)
+            if (lens.len() < w.len()) | (vals.len() < size as usize) | (ws.len() < words) {
+                return Done::Faulty(Refusal::ShortRoom);
             }
+            write_nodes(&mut ws[..words], w, x, sl, sv, tl, tv, lens, vals);
+            Done::Fine
         }
     }
 }
@@ -227,12 +226,11 @@ pub fn operation_adjacency(
         Size::Unsized(why) => Done::Faulty(why),
         Size::Entries(size) => {
             let words = workspace_need(w, x, sl, sv, tl, tv);
-            if (x.len() <= lens.len()) & (size as usize <= vals.len()) & (words <= ws.len()) {
-                write_operations(&mut ws[..words], w, x, sl, sv, tl, tv, lens, vals);
-                Done::Fine
-            } else {
-                Done::Faulty(Refusal::ShortRoom)
+            if (lens.len() < x.len()) | (vals.len() < size as usize) | (ws.len() < words) {
+                return Done::Faulty(Refusal::ShortRoom);
             }
+            write_operations(&mut ws[..words], w, x, sl, sv, tl, tv, lens, vals);
+            Done::Fine
         }
     }
 }

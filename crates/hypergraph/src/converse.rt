@@ -51,13 +51,12 @@ fn write_converse(
     requires { ⌜ n + 1 + length (now vs) ≤ words ⌝ }
     ensures { λ r. ⌜ WritesRows (converse (now (ls .entry)) (now (vs .entry))) n (roomsRefusal n (length (now (lens .entry))) (length (now (vs .entry))) (length (now (vals .entry))) words (length (now (ws .entry)))) words (now (lens .entry)) (now (lens .exit)) (now (vals .entry)) (now (vals .exit)) (now (ws .entry)) (now (ws .exit)) r ⌝ }
 {
-    if (n <= lens.len()) & (vs.len() <= vals.len()) & (words <= ws.len()) {
-        array::bincount(lens, n, vs);
-        write_entries(ws, words, n, &lens[..], ls, vs, vals);
-        Done::Fine
-    } else {
-        Done::Faulty(Refusal::ShortRoom)
+    if (lens.len() < n) | (vals.len() < vs.len()) | (ws.len() < words) {
+        return Done::Faulty(Refusal::ShortRoom);
     }
+    array::bincount(lens, n, vs);
+    write_entries(ws, words, n, &lens[..], ls, vs, vals);
+    Done::Fine
 }
 
 // For each node the operations that list it as a source: n lengths and S values. Lent a workspace of W words or more.

@@ -1,5 +1,5 @@
 -- Several rooms tested together by |, and a list of refusals whose front is the check of a drawing.
-use Prim.Native.Nat.{ℕ}
+use Prim.Native.Nat.{ℕ, _≤_}
 use mathlib.Core.Bool.{Bool, true, false, _||_}
 use mathlib.Core.List.{List, [], _∷_, _++_}
 use mathlib.Core.Path.{_≡_, refl, sym, _∙_}
@@ -9,6 +9,7 @@ use borrow.Author.Tests.{ltb-true, ltb-false}
 use Rattle.rules.specs.declared.Refusal.{Refusal}
 use Rattle.rules.specs.Refusals.{firstOf, shortRoom, unless, number, within, badLengths, badValue}
 use Rattle.rules.specs.Drawing.{Drawing}
+use Rattle.rules.specs.Inner.Rooms.{roomsShort}
 use Rattle.rules.specs.Facts.Refusing.{first-append, short, first-behind, enough, number-some}
 use Rattle.rules.specs.Calls.{drawingRefusal}
 
@@ -46,6 +47,18 @@ more-rooms {l} {b} need room r = go b refl
 pub or-none : (a b : Bool) → (a || b) ≡ false → (a ≡ false) × (b ≡ false)
 or-none true b e = absurd (let z : _≡_ {A = ℕ} 0 1 = cc in omega arith)
 or-none false b e = (refl, e)
+
+-- none of three: each is as long as needed
+pub rooms-three : {need₁ room₁ need₂ room₂ words room : ℕ} → roomsShort need₁ room₁ need₂ room₂ words room ≡ false → (need₁ ≤ room₁) × (need₂ ≤ room₂) × (words ≤ room)
+rooms-three {need₁} {room₁} {need₂} {room₂} {words} {room} e =
+    let p = or-none (ltb room₁ need₁ || ltb room₂ need₂) (ltb room words) e in
+    let q = or-none (ltb room₁ need₁) (ltb room₂ need₂) (p .0) in
+    (ltb-false _ _ (q .0), ltb-false _ _ (q .1), ltb-false _ _ (p .1))
+
+-- and what they are refused with
+pub three-rooms : (need₁ room₁ need₂ room₂ words room : ℕ)
+    → Rooms (shortRoom need₁ room₁ ∷ shortRoom need₂ room₂ ∷ shortRoom words room ∷ []) (roomsShort need₁ room₁ need₂ room₂ words room)
+three-rooms need₁ room₁ need₂ room₂ words room = more-rooms words room (more-rooms need₂ room₂ (one-room need₁ room₁))
 
 -- the refusal of a drawing, and what stands behind it
 module _ (d : Drawing) (rest : List ℕ) where

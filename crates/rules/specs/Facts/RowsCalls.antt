@@ -1,43 +1,28 @@
 -- The promise of a call that writes rows, at each of its returns.
 use Prim.Native.Nat.{ℕ, _+_, _-_, _≤_, _<_, _^_}
 use native.Mathlib.Omega.{arith}
-use mathlib.Core.Bool.{Bool, true, false, _&&_}
+use mathlib.Core.Bool.{true, false}
 use mathlib.Core.List.{List, [], _∷_, _++_, append-nil}
 use mathlib.Core.Path.{_≡_, refl, sym, ap, _∙_}
 use lib.ListN.{drop-of-length-le, length, drop, replicate}
 use lib.Seq.{drop-append-add, drop-drop}
-use lib.Dec.{leb}
-use borrow.Author.Tests.{leb-true}
 use Rattle.rules.specs.Lists.{sum, rowLengths, rowEntries}
 use Rattle.rules.specs.declared.Done.{Done}
 use Rattle.rules.specs.declared.Done.the-variants.{Fine, Faulty}
 use Rattle.rules.specs.declared.Refusal.{Refusal}
 use Rattle.rules.specs.declared.Refusal.the-variants.{ShortRoom}
-use Rattle.rules.specs.Inner.Rooms.{roomsFit, roomsRefusal}
+use Rattle.rules.specs.Inner.Rooms.{roomsShort, roomsRefusal}
 use Rattle.rules.specs.Drawing.{Drawing, Accepted, nodeCount}
 use Rattle.rules.specs.Inner.Loops.{Listed}
 use Rattle.rules.specs.Facts.Incident.{sources-listed}
-use Rattle.rules.specs.Refusals.{firstOf, unless, shortRoom, workspaceNeed, within, badLengths, number, badValue}
+use Rattle.rules.specs.Refusals.{unless, shortRoom, workspaceNeed, within, badLengths, number, badValue}
 use Rattle.rules.specs.Inner.Words.{filled}
 use Rattle.rules.specs.Promises.{WritesRows}
 use Rattle.rules.specs.Inner.Rows.{PutRows}
-use Rattle.rules.specs.Facts.Tests.{both}
+use Rattle.rules.specs.Facts.Rooms.{three-rooms}
 use Rattle.rules.specs.Calls.{drawingRefusal, twoOutputsRefusal}
 use Rattle.rules.specs.Facts.Rows.{put-front}
 use Rattle.rules.specs.Facts.Refusing.{first-behind, first-append, number-some, refused-keeps, early-left, drawing-early}
-
-three : (a b c : Bool) → firstOf (unless a 11 ∷ unless b 11 ∷ unless c 11 ∷ []) ≡ unless (a && b && c) 11
-three true true true = refl
-three true true false = refl
-three true false c = refl
-three false b c = refl
-
--- rooms that fit, one by one
-pub rooms-three : {need₁ room₁ need₂ room₂ words room : ℕ} → roomsFit need₁ room₁ need₂ room₂ words room ≡ true → (need₁ ≤ room₁) × (need₂ ≤ room₂) × (words ≤ room)
-rooms-three {need₁} {room₁} {need₂} {room₂} {words} {room} e =
-    let p = both (leb need₁ room₁ && leb need₂ room₂) (leb words room) e in
-    let q = both (leb need₁ room₁) (leb need₂ room₂) (p .0) in
-    (leb-true _ _ (q .0), leb-true _ _ (q .1), leb-true _ _ (p .1))
 
 -- words at the front that were used and are cleared
 pub front-cleared : (k words : ℕ) (t ws : List ℕ) → length t ≡ k → k ≤ words → filled words 0 (t ++ drop k ws) ≡ filled words 0 ws
@@ -60,16 +45,16 @@ tables-need d ws a h = ((sources-listed d 0 a (omega arith), omega (arith, a .ta
 
 -- the rooms are looked at
 module _ (rows : ℕ → List ℕ) (k need₁ room₁ need₂ room₂ words room : ℕ) (lens lens' vals vals' ws ws' : List ℕ) where
-  pub rows-short : roomsFit need₁ room₁ need₂ room₂ words room ≡ false → WritesRows rows k (roomsRefusal need₁ room₁ need₂ room₂ words room) words lens lens vals vals ws ws (Faulty ShortRoom)
+  pub rows-short : roomsShort need₁ room₁ need₂ room₂ words room ≡ true → WritesRows rows k (roomsRefusal need₁ room₁ need₂ room₂ words room) words lens lens vals vals ws ws (Faulty ShortRoom)
   unfolding roomsRefusal
-  rows-short e = record { refusal = sym (three (leb need₁ room₁) (leb need₂ room₂) (leb words room) ∙ rw e); lengths = refl; values = refl; workspace = refl }
+  rows-short e = record { refusal = sym (three-rooms need₁ room₁ need₂ room₂ words room .yes e); lengths = refl; values = refl; workspace = refl }
 
-  pub rows-done : roomsFit need₁ room₁ need₂ room₂ words room ≡ true → PutRows rows k lens lens' vals vals' → ws' ≡ filled words 0 ws
+  pub rows-done : roomsShort need₁ room₁ need₂ room₂ words room ≡ false → PutRows rows k lens lens' vals vals' → ws' ≡ filled words 0 ws
       → WritesRows rows k (roomsRefusal need₁ room₁ need₂ room₂ words room) words lens lens' vals vals' ws ws' Fine
   unfolding roomsRefusal
   rows-done e p c =
       record {
-        refusal = sym (three (leb need₁ room₁) (leb need₂ room₂) (leb words room) ∙ rw e);
+        refusal = sym (three-rooms need₁ room₁ need₂ room₂ words room .no e);
         lengths = p .lengths ∙ put-front (rowLengths rows k) lens;
         values = p .entries ∙ put-front (rowEntries rows k) vals;
         workspace = c;
@@ -105,6 +90,6 @@ module _ (d : Drawing) (rows : ℕ → List ℕ) (k need₁ room₁ need₂ room
   rows-sized words need e p q h = rows-fine e (rw (p, q) at h)
 
   -- a room is too short
-  pub rows-refused : (words need : ℕ) → drawingRefusal d ≡ 0 → words ≡ workspaceNeed d → need ≡ need₂ → roomsFit need₁ room₁ need room₂ words room ≡ false
+  pub rows-refused : (words need : ℕ) → drawingRefusal d ≡ 0 → words ≡ workspaceNeed d → need ≡ need₂ → roomsShort need₁ room₁ need room₂ words room ≡ true
       → WritesRows rows k (twoOutputsRefusal d need₁ room₁ need₂ room₂ room) (workspaceNeed d) lens lens vals vals ws ws (Faulty ShortRoom)
   rows-refused words need e p q f = rows-sized words need e p q (rows-short rows k need₁ room₁ need room₂ words room lens lens vals vals ws ws f)
