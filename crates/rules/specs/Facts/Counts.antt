@@ -8,7 +8,7 @@ use native.Mathlib.Omega.{arith}
 use lib.ListN.{length, getD, drop, drop-of-length-le}
 use lib.Seq.{drop-cons}
 use lib.Dec.{eqb}
-use borrow.Author.Tests.{eqb-true, eqb-false, lt-ltb, le-ltb}
+use borrow.Author.Tests.{eqb-true, eqb-false}
 use Rattle.rules.specs.Lists.{_∈_, sum, allBelow, at}
 use Rattle.rules.specs.Inner.Words.{bit, count, upFrom, products}
 use Rattle.rules.specs.Facts.Stores.{bit-same, bit-other}
@@ -24,14 +24,6 @@ module _ (l : List ℕ) (i : ℕ) (h : i < length l) where
   pub count-more : (v : ℕ) → count v (drop i l) ≡ bit (eqb (getD l i 0) v) + count v (drop (i + 1) l)
   unfolding count
   count-more v = rw drop-more
-
-  pub allBelow-more : (n : ℕ) → getD l i 0 < n → allBelow (drop i l) n ≡ allBelow (drop (i + 1) l) n
-  unfolding allBelow
-  allBelow-more n b = rw (drop-more, lt-ltb (getD l i 0) n b)
-
-  pub allBelow-not : (n : ℕ) → n ≤ getD l i 0 → allBelow (drop i l) n ≡ false
-  unfolding allBelow
-  allBelow-not n b = rw (drop-more, le-ltb (getD l i 0) n b)
 
 -- and at the end
 pub sum-end : (l : List ℕ) (i : ℕ) → length l ≤ i → sum (drop i l) ≡ 0

@@ -1,7 +1,7 @@
 -- Tests that compute, each with a proof that it decides its rule: reached, acyclic, no road, no entry twice, convex.
 use Prim.Native.Nat.{ℕ, zero, suc, _<_}
 use native.Mathlib.Omega.{arith}
-use mathlib.Core.Bool.{Bool, true, false, _||_, _&&_, not}
+use mathlib.Core.Bool.{Bool, true, _||_, _&&_, not}
 use mathlib.Core.Path.{_≡_, refl, sym, ap}
 use mathlib.Core.Logic.{_⊎_, inl, inr, _↔_}
 use mathlib.Core.List.{List, [], _∷_, List·Memᴰ·not-nil, Memᴰ·cast}
@@ -117,15 +117,6 @@ module _ {d : Drawing} (a : Accepted d) where
       λ t q. T-not (any out (outside x (opCount d))) t (no-road (q .route) (q .leaves) (q .enters) (q .begins)),
       λ c. not-T (any out (outside x (opCount d))) (λ t. c (road t)),
     )
-
-    -- none, or here it is
-    pub no-road-or-road : (¬ Road d w x) ⊎ Road d w x
-    unfolding noRoadB
-    no-road-or-road = go (any out (outside x (opCount d))) refl
-      where
-        go : (b : Bool) → any out (outside x (opCount d)) ≡ b → (¬ Road d w x) ⊎ Road d w x
-        go true e = inr (road (rw e tt))
-        go false e = inl (no-road-iff .0 (rw e tt))
 
 -- no entry twice
 unfoldable pub distinct : List ℕ → Bool

@@ -3,20 +3,18 @@ use Prim.Native.Nat.{ℕ, zero, suc, _+_, _-_, _≤_, _<_}
 use native.Mathlib.Omega.{arith}
 use native.Mathlib.Numerals.{add-one}
 use native.Mathlib.Nat.{zero-add, suc-add}
-use mathlib.Core.Bool.{Bool, true, false, _&&_}
+use mathlib.Core.Bool.{true, false}
 use mathlib.Core.List.{List, [], _∷_, _++_, map, append-assoc, List·Memᴰ·head, List·Memᴰ·tail}
 use mathlib.Core.Path.{_≡_, refl, sym, ap, _∙_}
 use lib.ListN.{length, getD, set, take, drop, length-set, length-map, drop-of-length-le, take-append-drop}
 use lib.Seq.{length-take-le, getD-drop, drop-drop, drop-at, take-at, drop-append-add, set-append-left, paste-suc, take-all}
-use lib.Dec.{ltb}
-use borrow.Author.Tests.{eq-eqb, ne-eqb, ltb-false}
+use borrow.Author.Tests.{eq-eqb, ne-eqb}
 use Rattle.rules.specs.Inner.Words.{back}
 use Rattle.rules.specs.Facts.Segments.{back-before, seg-length, seg-set-in, back-after, seg-at}
 use Rattle.rules.specs.Evaluation.{storeAll}
 use Rattle.rules.specs.Lists.{_∈_, has, seg, at}
 use Rattle.rules.specs.Facts.Counts.{drop-more}
 use Rattle.rules.specs.Facts.Member.{getD-∈}
-use Rattle.rules.specs.Facts.Tests.{not-both}
 
 -- a test of each entry, one turn and the end
 pub has-here : (l : List ℕ) (i a : ℕ) → i < length l → a ≡ getD l i 0 → has (drop i l) a ≡ true
@@ -60,15 +58,6 @@ module _ (places values memory : List ℕ) (i : ℕ) where
 
   pub store-out : length values ≤ i → storeAll (drop i places) (drop i values) memory ≡ memory
   store-out h = rw (drop-of-length-le values h) (store-none (drop i places) memory)
-
-  -- at the end of either list
-  pub store-stop : ltb i (length places) && ltb i (length values) ≡ false → storeAll (drop i places) (drop i values) memory ≡ memory
-  store-stop = go (ltb i (length places)) (ltb i (length values)) refl refl
-    where
-      go : (a b : Bool) → ltb i (length places) ≡ a → ltb i (length values) ≡ b → a && b ≡ false → storeAll (drop i places) (drop i values) memory ≡ memory
-      go false b p q e = store-end (ltb-false i (length places) p)
-      go true false p q e = store-out (ltb-false i (length values) q)
-      go true true p q e = not-both (sym e)
 
 -- values read at places: one turn
 pub map-at : (f : ℕ → ℕ) (l : List ℕ) (i : ℕ) → i < length l → getD (map f l) i 0 ≡ f (getD l i 0)

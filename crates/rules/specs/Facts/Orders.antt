@@ -8,8 +8,8 @@ use mathlib.Core.Logic.{_↔_}
 use mathlib.Core.List.{List}
 use lib.ListN.{length-map}
 use lib.Seq.{ext-getD}
-use lib.Dec.{T, T-not, not-T}
-use Rattle.rules.specs.Graph.{Chain, stay, step, Order, OnOrBehindCycle, Placed, ends, longestBelow, Kahn, order, Sorted, mark, ordersOf, marksOf, unplaced, placed}
+use lib.Dec.{T, T-not}
+use Rattle.rules.specs.Graph.{Chain, stay, step, Order, OnOrBehindCycle, ends, longestBelow, Kahn, order, Sorted, mark, ordersOf, marksOf, unplaced, placed}
 use Rattle.rules.specs.Lists.{_∈_, has, range}
 use Rattle.rules.specs.Facts.Bools.{and-i, and-e}
 use Rattle.rules.specs.Facts.Member.{any-i, any-e, has-i, has-e, range-∈, range-length, map-range}
@@ -68,11 +68,6 @@ module _ (next : ℕ → List ℕ) (size : ℕ) (tails : (u v : ℕ) → v ∈ n
           → (k : ℕ) × T (ends next size k v) × T (not (ends next size (suc k) v))
       go ih true e = (n, rw e tt, f)
       go ih false e = ih (rw e tt)
-
-  pub order-of-placed : (v : ℕ) → v < size → Placed next v → (k : ℕ) × Order next v k
-  order-of-placed v h p =
-      let q = last-end v size (not-T (ends next size size v) (λ t. p ((unplaced-iff v h) .0 t))) in
-      (q .0, order-by v (q .0) (q .1) (q .2))
 
   -- the largest number of steps, where none of size steps ends in v
   longest-is : (v n : ℕ) → T (not (ends next size n v)) → Order next v (longestBelow next size n v)

@@ -56,9 +56,6 @@ first-behind (suc a ∷ l) rest e = absurd (omega arith)
 pub holds : (b : Bool) (k : ℕ) → b ≡ true → unless b k ≡ 0
 holds b k e = rw e
 
-pub fails : (b : Bool) (k : ℕ) → b ≡ false → unless b k ≡ k
-fails b k e = rw e
-
 pub enough : (need room : ℕ) → need ≤ room → shortRoom need room ≡ 0
 enough need room h = rw (le-leb need room h)
 
@@ -85,11 +82,7 @@ early-left k words ws (inr e) n = rw e
 pub refused-keeps : (k : ℕ) (new out : List ℕ) → ¬ (k ≡ 0) → out ≡ written k new out
 refused-keeps k new out n = rw (ne-eqb k 0 n)
 
--- 2, then 3; and with 1 before them
-pub lists-early : (d : Drawing) → Early (listsRefusal d)
-unfolding listsRefusal
-lists-early d = early-first (badLengths d) (badValue d ∷ []) (early-unless (lengthsFit d) 2 refl) (early-first (badValue d) [] (early-unless (valuesBelow d) 3 refl) (inl refl))
-
+-- 1, 2 and 3 come early
 pub drawing-early : (d : Drawing) → Early (drawingRefusal d)
 unfolding drawingRefusal
 drawing-early d =

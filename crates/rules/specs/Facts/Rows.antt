@@ -22,9 +22,6 @@ pub concat-append : (g : ℕ → List ℕ) (l r : List ℕ) → concat (map g (l
 concat-append g [] r = refl
 concat-append g (a ∷ l) r = rw (concat-append g l r) (sym (append-assoc (g a) (concat (map g l)) (concat (map g r))))
 
-pub concat-one : (g : ℕ → List ℕ) (a : ℕ) → concat (map g (a ∷ [])) ≡ g a
-concat-one g a = append-nil (g a)
-
 pub map-same : (f g : ℕ → ℕ) (l : List ℕ) → ((v : ℕ) → f v ≡ g v) → map f l ≡ map g l
 map-same f g [] h = refl
 map-same f g (a ∷ l) h = rw (h a, map-same f g l h)
@@ -36,9 +33,6 @@ module _ (rows : ℕ → List ℕ) where
 
   pub lengths-suc : (k : ℕ) → rowLengths rows (suc k) ≡ rowLengths rows k ++ (length (rows k) ∷ [])
   lengths-suc k = map-append (λ i. length (rows i)) (range k) (k ∷ [])
-
-  pub lengths-long : (k : ℕ) → length (rowLengths rows k) ≡ k
-  lengths-long k = length-map (range k) (λ i. length (rows i)) ∙ range-length k
 
   entries-split : (i k : ℕ) → i ≤ k → (rest : List ℕ) × (rowEntries rows k ≡ rowEntries rows i ++ rest)
   entries-split i zero h = let e : i ≡ 0 = omega arith in rw e ([], refl)

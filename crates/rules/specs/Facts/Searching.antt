@@ -92,10 +92,6 @@ pair-same {n} {k} {b} {c} {ws} {ws'} p e =
 pub table-row : {k : ℕ} {t : List ℕ} → Table k t → (i : ℕ) → i < k → Row k t i
 table-row {k} {t} T i h = record { low = h; rises = T .rises i h; fits = row-end k t T (i + 1) (omega arith) }
 
-pub row-size : {k : ℕ} {t : List ℕ} {i : ℕ} → Row k t i → length (successors k t i) ≡ getD t (i + 1) 0 - getD t i 0
-row-size {k} {t} {i} r =
-    rw (row k t i (r .low)) (seg-length (k + 1 + getD t i 0) (getD t (i + 1) 0 - getD t i 0) t (omega (arith, r .fits, r .rises)))
-
 -- the part that the code takes of a table is the row
 pub row-part : {k : ℕ} {t : List ℕ} {i : ℕ} → Row k t i → take (k + 1 + getD t (i + 1) 0 - (k + 1 + getD t i 0)) (drop (k + 1 + getD t i 0) t) ≡ successors k t i
 row-part {k} {t} {i} r =
@@ -147,10 +143,6 @@ module _ {n k b c : ℕ} {w ws₀ : List ℕ} {q h tail : ℕ} {ws : List ℕ} (
         held = f .held;
         search = search-step (s .search) (omega (arith, queue-long)) (rw (full-same ws₀ ws order (s .tables), ← seg-at (c + k) tail ws h l) at (f .grown));
       }
-
-  -- what is worked off is within the queue
-  pub searched-within : h ≤ tail
-  searched-within = omega (arith, s .search .worked, queue-long)
 
 -- the search is over
 pub searching-last : {n k b c : ℕ} {w ws₀ : List ℕ} {h tail : ℕ} {ws : List ℕ} → Laid k c ws → Searching n k b c w ws₀ (length w) h tail ws → tail ≤ h

@@ -86,9 +86,6 @@ pub decimal-length : (n : ℕ) → length (decimal n) ≤ 10
 unfolding decimal
 decimal-length n = spelled-length 10 n
 
-pub item-length : (n b : ℕ) → length (item n b) ≤ 11
-item-length n b = simp length-append (omega (arith, decimal-length n))
-
 pub lines-length : (e : ℕ) (os ms : List ℕ) → length (lines e os ms) ≤ 33 * length os
 unfolding lines
 lines-length e [] ms = omega arith

@@ -7,19 +7,14 @@ use lib.ListN.{length}
 use Rattle.rules.specs.Drawing.{Drawing}
 use Rattle.rules.specs.Analysis.{orders, marks}
 use Rattle.rules.specs.Text.{Sections, whole, broken, wholeText, mostBytes}
-use Rattle.rules.specs.Program.{operationLines, refusedLine, answer, drawingIn, boundaryIn, valuesIn, outputOf, mostWritten}
+use Rattle.rules.specs.Program.{operationLines, refusedLine, answer, drawingIn, boundaryIn, valuesIn, outputOf}
 use Rattle.rules.specs.Facts.Output.{output-broken, output-whole}
-use Rattle.rules.specs.Facts.OutputLong.{output-long, orders-length}
+use Rattle.rules.specs.Facts.OutputLong.{orders-length}
 use Rattle.text.specs.declared.Text.{Text}
 use Rattle.text.specs.declared.Text.the-variants.{Read as TextRead, Refused as TextRefused}
 use Rattle.text.specs.Reading.{textAnswer, ReadText, sectionsOf}
 use Rattle.text.specs.Writing.{operations}
 use Rattle.text.specs.Facts.Parts.{Held}
-use Rattle.text.specs.Facts.Puts.{Rest, rest-start}
-
--- there is room for all that is written
-pub output-start : (t out : List ℕ) → mostWritten ≤ length out → Rest 0 out (outputOf t) 0 out (outputOf t)
-output-start t out h = rest-start 0 out (outputOf t) (omega (arith, output-long t))
 
 module _ (t : List ℕ) (h : length t ≤ mostBytes) where
   -- a text that is refused
