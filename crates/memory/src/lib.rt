@@ -1,9 +1,8 @@
-// Memory: words that are read and written at listed places, in a slice of their own or within a workspace.
-ghost use mathlib.Core.List.{map};
+// Memory: words that are written at listed places, in a slice of their own or within a workspace.
 ghost use mathlib.Core.Path.{_≡_};
 ghost use Prim.Native.Nat.{ℕ, _+_, _≤_, _<_, min};
-ghost use lib.ListN.{length, drop};
-ghost use Rattle.rules.specs.Lists.{_∈_, at, has, seg};
+ghost use lib.ListN.{length};
+ghost use Rattle.rules.specs.Lists.{_∈_, has, seg};
 ghost use Rattle.rules.specs.Evaluation.{storeAll};
 ghost use Rattle.rules.specs.Inner.Words.{back};
 
@@ -39,18 +38,6 @@ pub fn scatter(memory: &mut [u32], places: &[u32], values: &[u32])
         let i = count - left;
         memory[places[i] as usize] = values[i];
         left -= 1;
-    }
-}
-
-// Reads the values at places of the memory that begins at word base, and writes them behind it, from word `to` on.
-pub fn gather_within(ws: &mut [u32], base: usize, to: usize, places: &[u32])
-    requires { ⌜ ((u : ℕ) → u ∈ now places → base + u < to) × (to + length (now places) ≤ length (now ws)) ⌝ }
-    ensures { λ _. ⌜ now (ws .exit) ≡ back to (length (now (places .entry))) (map (at (drop base (now (ws .entry)))) (now (places .entry))) (now (ws .entry)) ⌝ }
-{
-    let mut i = 0;
-    while i < places.len() {
-        ws[to + i] = ws[base + places[i] as usize];
-        i += 1;
     }
 }
 

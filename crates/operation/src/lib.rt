@@ -1,12 +1,14 @@
 // The operation table: which operation a label stands for, with how many inputs and outputs, and what it computes.
+//
+// An operation reads its inputs where they stand, at places of the memory, in order; then it writes its outputs into the part that it is lent.
 ghost use mathlib.Core.Bool.{true};
-ghost use mathlib.Core.List.{_++_};
+ghost use mathlib.Core.List.{map};
 ghost use mathlib.Core.Path.{_≡_};
 ghost use Prim.Native.Nat.{_-_, _≤_, _<_, _^_, min, max};
-ghost use lib.ListN.{length, take};
+ghost use lib.ListN.{length, replicate};
 ghost use Rattle.rules.specs.Lists.{at};
 ghost use Rattle.rules.specs.Evaluation.{operation, suits, least, most, placeOf, result};
-ghost use Rattle.rules.specs.Inner.Operating.{Suited};
+ghost use Rattle.rules.specs.Inner.Operating.{Suited, Placed};
 
 // Whether a label is known and its operation has so many inputs and outputs.
 pub fn suits(label: u32, ins: usize, outs: usize) -> bool
@@ -41,43 +43,51 @@ fn difference(a: u32, b: u32) -> u32
     if a < b { b - a } else { a - b }
 }
 
-// The smallest of one or more numbers.
-fn smallest(list: &[u32]) -> u32
-    requires { ⌜ 1 ≤ length (now list) ⌝ }
-    ensures { λ r. ⌜ r ≡ least (now (list .entry)) ⌝ }
+// Input i.
+fn input(memory: &[u32], places: &[u32], i: usize) -> u32
+    requires { ⌜ Placed (now memory) (now places) × (i < length (now places)) ⌝ }
+    ensures { λ r. ⌜ r ≡ at (map (at (now (memory .entry))) (now (places .entry))) i ⌝ }
 {
-    let mut best = list[0];
+    memory[places[i] as usize]
+}
+
+// The smallest of one or more inputs.
+fn smallest(memory: &[u32], places: &[u32]) -> u32
+    requires { ⌜ Placed (now memory) (now places) × (1 ≤ length (now places)) ⌝ }
+    ensures { λ r. ⌜ r ≡ least (map (at (now (memory .entry))) (now (places .entry))) ⌝ }
+{
+    let mut best = input(memory, places, 0);
     let mut i = 1;
-    while i < list.len() {
-        best = smaller(best, list[i]);
+    while i < places.len() {
+        best = smaller(best, input(memory, places, i));
         i += 1;
     }
     best
 }
 
-// The largest of one or more numbers.
-fn largest(list: &[u32]) -> u32
-    requires { ⌜ 1 ≤ length (now list) ⌝ }
-    ensures { λ r. ⌜ r ≡ most (now (list .entry)) ⌝ }
+// The largest of one or more inputs.
+fn largest(memory: &[u32], places: &[u32]) -> u32
+    requires { ⌜ Placed (now memory) (now places) × (1 ≤ length (now places)) ⌝ }
+    ensures { λ r. ⌜ r ≡ most (map (at (now (memory .entry))) (now (places .entry))) ⌝ }
 {
-    let mut best = list[0];
+    let mut best = input(memory, places, 0);
     let mut i = 1;
-    while i < list.len() {
-        best = array::larger(best, list[i]);
+    while i < places.len() {
+        best = array::larger(best, input(memory, places, i));
         i += 1;
     }
     best
 }
 
-// The place of the first smallest of one or more numbers.
-fn first_smallest(list: &[u32]) -> u32
-    requires { ⌜ (1 ≤ length (now list)) × (length (now list) < 2 ^ 32) ⌝ }
-    ensures { λ r. ⌜ r ≡ placeOf (least (now (list .entry))) (now (list .entry)) ⌝ }
+// The position of the first smallest of one or more inputs.
+fn first_smallest(memory: &[u32], places: &[u32]) -> u32
+    requires { ⌜ Placed (now memory) (now places) × (1 ≤ length (now places)) × (length (now places) < 2 ^ 32) ⌝ }
+    ensures { λ r. ⌜ r ≡ placeOf (least (map (at (now (memory .entry))) (now (places .entry)))) (map (at (now (memory .entry))) (now (places .entry))) ⌝ }
 {
     let mut best = 0;
     let mut i = 1;
-    while i < list.len() {
-        if list[i] < list[best] {
+    while i < places.len() {
+        if input(memory, places, i) < input(memory, places, best) {
             best = i;
         }
         i += 1;
@@ -86,33 +96,36 @@ fn first_smallest(list: &[u32]) -> u32
 }
 
 // What each output of the operation is: only copying has more than one.
-fn value(label: u32, inputs: &[u32]) -> u32
-    requires { ⌜ Suited (operation label) (length (now inputs)) ⌝ }
-    requires { ⌜ length (now inputs) < 2 ^ 32 ⌝ }
-    ensures { λ r. ⌜ r ≡ at (result (operation label) (now (inputs .entry)) 1) 0 ⌝ }
+pub fn value(label: u32, memory: &[u32], places: &[u32]) -> u32
+    requires { ⌜ Placed (now memory) (now places) × (length (now places) < 2 ^ 32) ⌝ }
+    requires { ⌜ Suited (operation label) (length (now places)) ⌝ }
+    ensures { λ r. ⌜ r ≡ at (result (operation label) (map (at (now (memory .entry))) (now (places .entry))) 1) 0 ⌝ }
 {
     match label {
-        0 => inputs[0],
-        1 => std::num::wrapping_add_u32(inputs[0], inputs[1]),
-        2 => difference(inputs[0], inputs[1]),
-        3 => smallest(inputs),
-        4 => largest(inputs),
-        5 => std::num::wrapping_add_u32(inputs[0], inputs[1]) / 2,
-        6 => { if inputs[0] == 0 { inputs[2] } else { inputs[1] } }
-        7 => first_smallest(inputs),
-        16..=31 => inputs[0] >> (label - 16),
+        0 => input(memory, places, 0),
+        1 => std::num::wrapping_add_u32(input(memory, places, 0), input(memory, places, 1)),
+        2 => difference(input(memory, places, 0), input(memory, places, 1)),
+        3 => smallest(memory, places),
+        4 => largest(memory, places),
+        5 => std::num::wrapping_add_u32(input(memory, places, 0), input(memory, places, 1)) / 2,
+        6 => {
+            if input(memory, places, 0) == 0 {
+                input(memory, places, 2)
+            } else {
+                input(memory, places, 1)
+            }
+        }
+        7 => first_smallest(memory, places),
+        16..=31 => input(memory, places, 0) >> (label - 16),
         256..=511 => label - 256,
         _ => 0,
     }
 }
 
-// An operation in its own part of a lent room: the inputs stand first, and the outputs are written behind them.
-pub fn apply(label: u32, room: &mut [u32], ins: usize)
-    requires { ⌜ (ins ≤ length (now room)) × (ins < 2 ^ 32) ⌝ }
-    requires { ⌜ suits (operation label) ins (length (now room) - ins) ≡ true ⌝ }
-    ensures { λ _. ⌜ now (room .exit) ≡ take ins (now (room .entry)) ++ result (operation label) (take ins (now (room .entry))) (length (now (room .entry)) - ins) ⌝ }
+// An operation writes its outputs, each of them the value, into its own part of a lent room.
+pub fn write(outputs: &mut [u32], value: u32)
+    ensures { λ _. ⌜ now (outputs .exit) ≡ replicate (length (now (outputs .entry))) value ⌝ }
 {
-    let outs = room.len() - ins;
-    let answer = value(label, &room[..ins]);
-    array::fill(&mut room[ins..], outs, answer);
+    let outs = outputs.len();
+    array::fill(outputs, outs, value);
 }

@@ -2,29 +2,30 @@
 // then their outputs are stored in memory, in ascending operation order.
 //
 // The workspace, for m operations and n nodes: m orders, m marks, m operations layer by layer, m + 1 offsets; where each operation's
-// sources begin, and its targets, m each; n words of memory; the room, with each operation's inputs and outputs side by side.
+// sources begin, and its targets, m each; n words of memory; the room, in which each operation has a part for its outputs.
 ghost use mathlib.Core.Bool.{true};
+ghost use mathlib.Core.List.{map};
 ghost use mathlib.Core.Path.{_≡_};
 ghost use Prim.Native.Nat.{ℕ, _+_, _≤_, _<_, _^_};
 ghost use lib.ListN.{length};
-ghost use Rattle.rules.specs.Lists.{_∈_};
+ghost use Rattle.rules.specs.Lists.{_∈_, at, seg};
 ghost use Rattle.rules.specs.Drawing.{drawing, nodeCount, targetsOf};
 ghost use Rattle.rules.specs.Analysis.{orders, layers};
-ghost use Rattle.rules.specs.Evaluation.{operation, suits, storeAll, run};
-ghost use Rattle.rules.specs.Inner.Running.{Runs, Reads, ReadUpTo, StoredUpTo, Ran, Ready, worked, memoryAt, memoryOf, outputsIn, operationAt};
+ghost use Rattle.rules.specs.Evaluation.{operation, suits, result, storeAll, run};
+ghost use Rattle.rules.specs.Inner.Running.{Runs, Reads, ReadUpTo, StoredUpTo, Ran, Ready, memoryAt, memoryOf, outputsIn, operationAt};
 ghost use Rattle.rules.specs.Inner.Words.{back};
 
-// An operation reads its inputs, at places of the memory that begins at word base, into its own part of the room, which begins
-// at word `from`, and writes its outputs behind them.
-fn work(ws: &mut [u32], base: usize, from: usize, label: u32, places: &[u32], outs: usize)
-    requires { ⌜ ((u : ℕ) → u ∈ now places → base + u < from) × (from + length (now places) + outs ≤ length (now ws)) ⌝ }
+// An operation reads its inputs, at places of the n words of memory that begin at word base, and writes its outputs into its own part of
+// the room, which begins at word `from`.
+fn work(ws: &mut [u32], base: usize, n: usize, from: usize, label: u32, places: &[u32], outs: usize)
+    requires { ⌜ ((u : ℕ) → u ∈ now places → u < n) × (base + n ≤ length (now ws)) × (from + outs ≤ length (now ws)) ⌝ }
     requires { ⌜ (suits (operation label) (length (now places)) outs ≡ true) × (length (now places) < 2 ^ 32) ⌝ }
-    ensures { λ _. ⌜ now (ws .exit) ≡ back from (length (now (places .entry)) + outs) (worked base label outs (now (places .entry)) (now (ws .entry))) (now (ws .entry)) ⌝ }
+    ensures { λ _. ⌜ now (ws .exit) ≡ back from outs (result (operation label) (map (at (seg base n (now (ws .entry)))) (now (places .entry))) outs) (now (ws .entry)) ⌝ }
 {
-    let ins = places.len();
-    let end = from + ins + outs;
-    memory::gather_within(ws, base, from, places);
-    operation::apply(label, &mut ws[from..end], ins);
+    let room = base + n;
+    let end = from + outs;
+    let value = operation::value(label, &ws[base..room], places);
+    operation::write(&mut ws[from..end], value);
 }
 
 // Operation e reads its inputs and writes its outputs into its own part of the room.
@@ -43,18 +44,12 @@ fn read_one(
     ensures { λ _. ⌜ Reads (drawing (now (w .entry)) (now (x .entry)) (now (sl .entry)) (now (sv .entry)) (now (tl .entry)) (now (tv .entry))) e (now (ws .entry)) (now (ws .exit)) ⌝ }
 {
     let m = x.len();
+    let n = w.len();
     let base = 6 * m + 1;
     let s = ws[4 * m + 1 + e] as usize;
     let t = ws[5 * m + 1 + e] as usize;
     let end = s + sl[e] as usize;
-    work(
-        ws,
-        base,
-        base + w.len() + s + t,
-        x[e],
-        &sv[s..end],
-        tl[e] as usize,
-    );
+    work(ws, base, n, base + n + t, x[e], &sv[s..end], tl[e] as usize);
 }
 
 // Operation e stores its outputs.
@@ -75,10 +70,9 @@ fn store_one(
     let m = x.len();
     let n = w.len();
     let base = 6 * m + 1;
-    let s = ws[4 * m + 1 + e] as usize;
     let t = ws[5 * m + 1 + e] as usize;
     let end = t + tl[e] as usize;
-    memory::scatter_within(ws, base, n, base + n + s + t + sl[e] as usize, &tv[t..end]);
+    memory::scatter_within(ws, base, n, base + n + t, &tv[t..end]);
 }
 
 // The operations that stand at places lo to hi - 1, layer by layer, read.

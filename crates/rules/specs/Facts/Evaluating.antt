@@ -1,18 +1,17 @@
 -- Laws of memory and of evaluation, over lists: stores one by one, values read at places, layers run one behind the other.
 use Prim.Native.Nat.{ℕ, zero, suc, _+_, _-_, _≤_, _<_}
 use native.Mathlib.Omega.{arith}
-use native.Mathlib.Numerals.{add-one}
 use native.Mathlib.Nat.{zero-add, suc-add}
 use mathlib.Core.Bool.{true, false}
-use mathlib.Core.List.{List, [], _∷_, _++_, map, append-assoc, List·Memᴰ·head, List·Memᴰ·tail}
+use mathlib.Core.List.{List, [], _∷_, _++_, map, List·Memᴰ·head, List·Memᴰ·tail}
 use mathlib.Core.Path.{_≡_, refl, sym, ap, _∙_}
-use lib.ListN.{length, getD, set, take, drop, length-set, length-map, drop-of-length-le, take-append-drop}
-use lib.Seq.{length-take-le, getD-drop, drop-drop, drop-at, take-at, drop-append-add, set-append-left, paste-suc, take-all}
+use lib.ListN.{length, getD, set, take, drop, length-set, drop-of-length-le, take-append-drop}
+use lib.Seq.{length-take-le, drop-drop, drop-at, take-at, drop-append-add, set-append-left}
 use borrow.Author.Tests.{eq-eqb, ne-eqb}
 use Rattle.rules.specs.Inner.Words.{back}
-use Rattle.rules.specs.Facts.Segments.{back-before, seg-length, seg-set-in, back-after, seg-at}
+use Rattle.rules.specs.Facts.Segments.{seg-length, seg-set-in, back-after, seg-at}
 use Rattle.rules.specs.Evaluation.{storeAll}
-use Rattle.rules.specs.Lists.{_∈_, has, seg, at}
+use Rattle.rules.specs.Lists.{_∈_, has, seg}
 use Rattle.rules.specs.Facts.Counts.{drop-more}
 use Rattle.rules.specs.Facts.Member.{getD-∈}
 
@@ -69,15 +68,6 @@ pub map-same : (f g : ℕ → ℕ) (l : List ℕ) → ((u : ℕ) → u ∈ l →
 map-same f g [] h = refl
 map-same f g (a ∷ l) h = rw (h a (List·Memᴰ·head refl), map-same f g l (λ u m. h u (List·Memᴰ·tail m)))
 
--- a part of a list that has been replaced, up to its i-th word
-module _ (a : ℕ) (s ws : List ℕ) where
-  pub back-begin : back a 0 [] ws ≡ ws
-  back-begin = take-append-drop a ws
-
-  pub back-more : (i : ℕ) → a + i < length ws → i < length s → set (back a i (take i s) ws) (a + i) (getD s i 0) ≡ back a (i + 1) (take (i + 1) s) ws
-  back-more i h g =
-      rw (add-one i, drop-drop i a ws, drop-drop (suc i) a ws) (simp append-assoc at (paste-suc ws a s i 0 h g))
-
 -- a store inside of a part that has come back
 set-behind : (xs ys : List ℕ) (i v : ℕ) → set (xs ++ ys) (length xs + i) v ≡ xs ++ set ys i v
 set-behind [] ys i v = rw (zero-add i)
@@ -99,24 +89,6 @@ back-over a k l xs ys ws h e g =
         let q : l ≡ length xs + (l - k) = omega arith in
         let r : k + (l - k) ≡ l = omega arith in
         ap (λ (j : ℕ). drop j (xs ++ drop k (drop a ws))) q ∙ drop-append-add xs (drop k (drop a ws)) (l - k) ∙ drop-drop (l - k) k (drop a ws) ∙ ap (λ (j : ℕ). drop j (drop a ws)) r
-
--- values gathered into a part of a workspace, behind the memory that they are read from: one turn
-module _ (base to : ℕ) (places ws₀ : List ℕ) (low : (u : ℕ) → u ∈ places → base + u < to) (fits : to + length places ≤ length ws₀) where
-  abbrev read : List ℕ
-  read = map (at (drop base ws₀)) places
-
-  read-long : length read ≡ length places
-  read-long = length-map places (at (drop base ws₀))
-
-  pub gather-turn : (ws : List ℕ) (i : ℕ) → i < length places → ws ≡ back to i (take i read) ws₀
-      → set ws (to + i) (getD ws (base + getD places i 0) 0) ≡ back to (i + 1) (take (i + 1) read) ws₀
-  gather-turn ws i h e =
-      let before : getD (back to i (take i read) ws₀) (base + getD places i 0) 0 ≡ getD ws₀ (base + getD places i 0) 0 = back-before to i (take i read) ws₀ (omega arith) (length-take-le i read (omega (arith, read-long))) (base + getD places i 0) (low (getD places i 0) (getD-∈ places i h)) in
-      let value : getD ws₀ (base + getD places i 0) 0 ≡ getD read i 0 = sym (map-at (at (drop base ws₀)) places i h ∙ getD-drop base ws₀ (getD places i 0) 0) in
-      rw (e, before, value) (back-more to read ws₀ i (omega arith) (omega (arith, read-long)))
-
-  pub gather-end : (ws : List ℕ) (i : ℕ) → i ≡ length places → ws ≡ back to i (take i read) ws₀ → ws ≡ back to (length places) read ws₀
-  gather-end ws i e q = q ∙ rw (e, take-all (length places) read (omega (arith, read-long)))
 
 -- values scattered from a part of a workspace over the memory before it, which alone has changed
 pub record Scattering (base n from : ℕ) (places ws₀ ws : List ℕ) (i : ℕ) : Type 0 where

@@ -1,15 +1,15 @@
 -- The C face of the layer lookup, at each of its returns.
 use Prim.Native.Nat.{ℕ, _+_, _-_, _<_}
 use native.Mathlib.Omega.{arith}
-use mathlib.Core.Bool.{Bool, true, false, _&&_, cond}
-use mathlib.Core.List.{List, []}
-use mathlib.Core.Path.{_≡_, refl, sym, ap, _∙_}
+use mathlib.Core.Bool.{true, false, _&&_}
+use mathlib.Core.List.{List}
+use mathlib.Core.Path.{_≡_, refl, sym}
 use lib.ListN.{length}
 use lib.Dec.{ltb}
 use borrow.Author.Tests.{ltb-true}
-use Rattle.rules.specs.Lists.{at, seg}
+use Rattle.rules.specs.Lists.{at}
 use Rattle.rules.specs.Analysis.{sound, layerPart}
-use Rattle.rules.specs.Faces.{LayerAtFace, layerStart}
+use Rattle.rules.specs.Faces.{LayerAtFace}
 use Rattle.rules.specs.Facts.Tests.{both}
 use Rattle.rules.specs.Facts.Lookup.{Sound, sound-facts, part-starts, part-ends}
 use Rattle.rules.specs.Facts.Segments.{seg-length}

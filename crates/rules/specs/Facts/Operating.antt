@@ -3,10 +3,9 @@ use Prim.Native.Nat.{ℕ, zero, suc, _+_, _-_, _≤_, _<_, min, max, zero-le}
 use native.Mathlib.Omega.{arith}
 use native.Mathlib.Decide.{ℕ-discrete}
 use mathlib.Core.Bool.{Bool, true, _&&_}
-use mathlib.Core.List.{List, [], _∷_, _++_, append-nil}
+use mathlib.Core.List.{List, [], _∷_}
 use mathlib.Core.Path.{_≡_, refl, ap}
-use lib.ListN.{length, getD, take, drop, replicate, length-replicate, length-drop, drop-of-length-le, List·getD-eq-default}
-use lib.Seq.{length-take-le}
+use lib.ListN.{length, getD, drop, replicate, length-replicate, List·getD-eq-default}
 use lib.Dec.{eqb, leb}
 use borrow.Author.Tests.{eqb-true, eq-eqb, ne-eqb, leb-true, le-leb, lt-leb}
 use Rattle.rules.specs.Lists.{at}
@@ -14,7 +13,6 @@ use Rattle.rules.specs.Evaluation.{Operation, copy, add, difference, sma
 use Rattle.rules.specs.Facts.Tests.{both, not-both}
 use Rattle.rules.specs.Facts.Counts.{drop-more}
 use Rattle.rules.specs.Inner.Operating.{Suited}
-use Rattle.rules.specs.Inner.Words.{filled, back}
 
 -- the ranges, and the gaps between them
 pub operation-shift : (label : ℕ) → 16 ≤ label → label < 32 → operation label ≡ shift (label - 16)
@@ -175,17 +173,3 @@ enough-inputs firstSmallest ins s = leb-true 1 ins ((both (leb 1 ins) (eqb (s .0
 enough-inputs (shift k) ins s = some-in 1 ins (eqb (s .0) 1) (s .1)
 enough-inputs (constant k) ins s = omega arith
 enough-inputs unknown ins s = omega arith
-
--- an operation in its part of the room: what stands behind the inputs is filled with its value
-module _ (o : Operation) (ins : ℕ) (room : List ℕ) (fits : ins ≤ length room) (suited : suits o ins (length room - ins) ≡ true) where
-  ins-long : length (take ins room) ≡ ins
-  ins-long = length-take-le ins room fits
-
-  pub suited-part : suits o (length (take ins room)) (length room - ins) ≡ true
-  suited-part = rw ins-long suited
-
-  pub applied : (part ys : List ℕ) (v : ℕ) → length part ≤ length room - ins → ys ≡ filled (length room - ins) v part → v ≡ at (result o (take ins room) 1) 0
-      → back ins (length room - ins) ys room ≡ take ins room ++ result o (take ins room) (length room - ins)
-  applied part ys v h e q =
-      ap (λ (l : List ℕ). take ins room ++ l)
-      (rw (drop-of-length-le (drop ins room) {i = length room - ins} (simp length-drop (omega arith)), append-nil ys, e, drop-of-length-le part h, append-nil (replicate (length room - ins) v), q, same-outputs o (take ins room) (length room - ins) suited-part))

@@ -1,4 +1,4 @@
--- Evaluation in a workspace: the tables stand, each operation reads into its own part of the room, and a layer's outputs are stored in order.
+-- Evaluation in a workspace: the tables stand, each operation writes into its own part of the room, and a layer's outputs are stored in order.
 use Prim.Native.Nat.{ℕ, _+_, _-_, _*_, _≤_, _<_, _^_}
 use native.Mathlib.Omega.{arith}
 use native.Mathlib.Numerals.{add-one}
@@ -6,22 +6,23 @@ use native.Mathlib.Decide.{ℕ-discrete, decLt}
 use mathlib.Core.Bool.{Bool, true, false, cond}
 use mathlib.Core.Logic.{_⊎_, inl, inr}
 use lib.Dec.{eqb}
-use mathlib.Core.List.{List, [], _∷_, _++_, map, append-assoc, List·Memᴰ·tail, List·Memᴰ·head, List·Memᴰ·cases-cons}
+use mathlib.Core.List.{List, [], _∷_, _++_, map, List·Memᴰ·tail, List·Memᴰ·head, List·Memᴰ·cases-cons}
 use mathlib.Core.Path.{_≡_, refl, sym, ap, _∙_}
-use lib.ListN.{length, getD, take, drop, length-append, length-map, take-append-drop, drop-of-length-le}
-use lib.Seq.{length-take-le, getD-take, take-at, drop-at, take-take, take-all, drop-drop, drop-append-seam, take-append-seam, drop-cons}
+use lib.ListN.{length, getD, take, drop, replicate, length-map, take-append-drop, drop-of-length-le}
+use lib.Seq.{length-take-le, getD-take, take-at, take-take, take-all, drop-drop, drop-cons}
 use Rattle.rules.specs.Lists.{_∈_, at, sum, seg, those, range, concat}
 use Rattle.rules.specs.Facts.Segments.{seg-in-take, seg-length, back-length, back-seg-before, back-seg-after, seg-at, back-seg}
 use Rattle.rules.specs.Drawing.{Drawing, Accepted, part, nodeCount, Fits, opCount, sourcesOf, targetsOf, mostItems, mostValues}
-use Rattle.rules.specs.Inner.Running.{memoryAt, Runs, outputsAt, Tables, inputsAt, worked, memoryOf, Reads, outputsIn, roomAt, Ready, runRest, ReadUpTo, operationAt, StoredUpTo, Ran}
+use Rattle.rules.specs.Inner.Running.{memoryAt, Runs, outputsAt, Tables, memoryOf, Reads, outputsIn, roomAt, Ready, runRest, ReadUpTo, operationAt, StoredUpTo, Ran}
 use Rattle.rules.specs.Refusals.{workspaceNeed}
 use Rattle.rules.specs.Facts.Placing.{sum-take-le, sum-all, sum-take, below-mono, below-le}
-use Rattle.rules.specs.Facts.Evaluating.{map-same, back-over, store-append, store-length}
+use Rattle.rules.specs.Facts.Evaluating.{back-over, store-append, store-length}
 use Rattle.rules.specs.Evaluation.{result, outputsOf, suits, operation, runLayer, run, storeAll, suitsAt}
 use Rattle.rules.specs.Facts.Member.{∈-part, ∈-range, concat-e, getD-∈}
-use Rattle.rules.specs.Facts.Operating.{outputs-length}
+use Rattle.rules.specs.Facts.Operating.{outputs-length, same-outputs}
 use Rattle.rules.specs.Analysis.{orders, layerOffsets, layerOperations, layerOf, layers}
 use Rattle.rules.specs.Inner.Words.{below, back}
+use Rattle.rules.specs.Inner.Operating.{Suited, Placed}
 use Rattle.rules.specs.Facts.Layers.{orders-low, offset-at, layer-inside, operations-length, layers-length, layer-at}
 use Rattle.rules.specs.Facts.Orders.{orders-sorted}
 use Rattle.rules.specs.Facts.Counts.{drop-more}
@@ -68,13 +69,12 @@ module _ (d : Drawing) (a : Accepted d) where
   targets-long e = seg-length (sum (take e (d .targetLengths))) (at (d .targetLengths) e) (d .targetValues) (targets-in e)
 
   -- the parts of the room stand one behind the other
-  pub parts-apart : (e f : ℕ) → e < f → outputsAt d e + at (d .targetLengths) e ≤ inputsAt d f
-  parts-apart e f h =
-      omega (arith, sum-take (d .sourceLengths) e, sum-take-le (d .sourceLengths) (e + 1) f (omega arith), sum-take (d .targetLengths) e, sum-take-le (d .targetLengths) (e + 1) f (omega arith))
+  pub parts-apart : (e f : ℕ) → e < f → outputsAt d e + at (d .targetLengths) e ≤ outputsAt d f
+  parts-apart e f h = omega (arith, sum-take (d .targetLengths) e, sum-take-le (d .targetLengths) (e + 1) f (omega arith))
 
   -- and fit into the workspace
   pub part-fits : (ws : List ℕ) → length ws ≡ workspaceNeed d → (e : ℕ) → outputsAt d e + at (d .targetLengths) e ≤ length ws
-  part-fits ws long e = omega (arith, sources-in e, targets-in e)
+  part-fits ws long e = omega (arith, targets-in e)
 
 -- the tables are kept where the front is
 pub tables-kept : (d : Drawing) (ws ws' : List ℕ) → take (memoryAt d) ws' ≡ take (memoryAt d) ws → Tables d ws → Tables d ws'
@@ -119,46 +119,20 @@ sizes d ws r e h =
       room = r .long;
     }
 
--- an operation in its part of a workspace: inputs gathered, then applied
-pub back-tail : (a k : ℕ) (xs ys ws : List ℕ) → a ≤ length ws → seg (a + length xs) (length ys) (back a k (xs ++ ys) ws) ≡ ys
-back-tail a k xs ys ws h =
-    rw (← drop-drop (length xs) a (back a k (xs ++ ys) ws), drop-at (take a ws) ((xs ++ ys) ++ drop k (drop a ws)) a (length-take-le a ws h), append-assoc xs ys (drop k (drop a ws)), drop-append-seam xs (ys ++ drop k (drop a ws)))
-    (take-append-seam ys (drop k (drop a ws)))
+-- an operation that reads from the memory in a workspace, and writes into its own part behind it
+module _ (base n from label outs : ℕ) (places ws : List ℕ) (suited : suits (operation label) (length places) outs ≡ true) where
+  -- what `value` asks of the memory, n words that are lent for reading
+  pub value-asks : (k : ℕ) → k ≡ n → base + n ≤ length ws → ((u : ℕ) → u ∈ places → u < n) → length places < 2 ^ 32
+      → (Placed (seg base k ws) places × (length places < 2 ^ 32)) × Suited (operation label) (length places)
+  value-asks k e fits low few = rw (e, seg-length base n ws fits) ((low, few), (outs, suited))
 
-pub back-head : (a k : ℕ) (xs ws : List ℕ) (l : ℕ) → a ≤ length ws → k ≤ l → length xs ≡ k → take k (seg a l (back a k xs ws)) ≡ xs
-back-head a k xs ws l h g e =
-    rw (drop-at (take a ws) (xs ++ drop k (drop a ws)) a (length-take-le a ws h), take-take k l (xs ++ drop k (drop a ws)) g) (take-at xs (drop k (drop a ws)) k e)
-
-module _ (base from label outs : ℕ) (places ws : List ℕ) (fits : from + length places + outs ≤ length ws) where
-  abbrev ins : List ℕ
-  ins = map (at (drop base ws)) places
-
-  ins-are : length ins ≡ length places
-  ins-are = length-map places (at (drop base ws))
-
-  abbrev gathered : List ℕ
-  gathered = back from (length places) ins ws
-
-  pub gathered-long : length gathered ≡ length ws
-  gathered-long = back-length from (length places) ins ws (omega arith) ins-are
-
-  -- what `apply` asks of the part that it is lent
-  pub apply-asks : (k : ℕ) (ws₁ : List ℕ) → k ≡ length places + outs → ws₁ ≡ gathered → suits (operation label) (length places) outs ≡ true → length places < 2 ^ 32
-      → ((length places ≤ length (seg from k ws₁)) × (length places < 2 ^ 32)) × (suits (operation label) (length places) (length (seg from k ws₁) - length places) ≡ true)
-  apply-asks k ws₁ e q u v =
-      let c : length (seg from k ws₁) ≡ length places + outs = seg-length from k ws₁ (omega (arith, ap length q, gathered-long)) ∙ e in
-      let o : length places + outs - length places ≡ outs = omega arith in
-      rw (c, o) ((omega arith, v), u)
-
-  pub worked-back : (k : ℕ) (part ys ws₁ : List ℕ) → k ≡ length places + outs → ws₁ ≡ gathered → part ≡ seg from k ws₁
-      → ys ≡ take (length places) part ++ result (operation label) (take (length places) part) (length part - length places)
-      → back from k ys ws₁ ≡ back from (length places + outs) (worked base label outs places ws) ws
-  worked-back k part ys ws₁ e q p y =
-      let c : length part ≡ length places + outs = ap length p ∙ seg-length from k ws₁ (omega (arith, ap length q, gathered-long)) ∙ e in
-      let o : length part - length places ≡ outs = omega arith in
-      let i : take (length places) part ≡ ins = ap (take (length places)) (p ∙ rw q) ∙ back-head from (length places) ins ws k (omega arith) (omega arith) ins-are in
-      let z : ys ≡ worked base label outs places ws = y ∙ rw (i, o) in
-      rw (q, z, e) (back-over from (length places) (length places + outs) ins (worked base label outs places ws) ws (omega arith) ins-are (omega arith))
+  -- the part that `write` was lent holds the outputs
+  pub written-back : (k j v : ℕ) (ys : List ℕ) → k ≡ n → j ≡ outs → from + outs ≤ length ws → v ≡ at (result (operation label) (map (at (seg base k ws)) places) 1) 0
+      → ys ≡ replicate (length (seg from j ws)) v → back from j ys ws ≡ back from outs (result (operation label) (map (at (seg base n ws)) places) outs) ws
+  written-back k j v ys e f fits p q =
+      rw (f, q, seg-length from j ws (omega arith) ∙ f, p, e)
+      (ap (λ (l : List ℕ). back from outs l ws)
+      (sym (same-outputs (operation label) (map (at (seg base n ws)) places) outs (rw (length-map places (at (seg base n ws))) suited))))
 
 -- as many outputs as targets
 pub outputs-many : (d : Drawing) (e : ℕ) (memory : List ℕ) → suitsAt d e ≡ true → length (outputsOf d memory e) ≡ length (targetsOf d e)
@@ -174,11 +148,8 @@ module _ (d : Drawing) (ws : List ℕ) (r : Runs d ws) (e : ℕ) (h : e < opCoun
   abbrev M : List ℕ
   M = memoryOf d ws
 
-  source-low : (u : ℕ) → u ∈ sourcesOf d e → u < nodeCount d
+  pub source-low : (u : ℕ) → u ∈ sourcesOf d e → u < nodeCount d
   source-low u m = r .accepted .sources .below u (∈-part (d .sourceLengths) (d .sourceValues) e m)
-
-  pub sources-before : (u : ℕ) → u ∈ sourcesOf d e → memoryAt d + u < inputsAt d e
-  sources-before u m = omega (arith, source-low u m)
 
   pub target-low : (u : ℕ) → u ∈ targetsOf d e → u < nodeCount d
   target-low u m = r .accepted .targets .below u (∈-part (d .targetLengths) (d .targetValues) e m)
@@ -187,12 +158,12 @@ module _ (d : Drawing) (ws : List ℕ) (r : Runs d ws) (e : ℕ) (h : e < opCoun
   suits-here = rw (← targets-long d (r .accepted) e) (r .suited e h)
 
   -- what `work` asks, and what `scatter_within` does
-  pub work-asks : (places : List ℕ) (from : ℕ) → places ≡ sourcesOf d e → from ≡ inputsAt d e
-      → (((u : ℕ) → u ∈ places → memoryAt d + u < from) × (from + length places + at (d .targetLengths) e ≤ length ws))
+  pub work-asks : (places : List ℕ) (from : ℕ) → places ≡ sourcesOf d e → from ≡ outputsAt d e
+      → (((u : ℕ) → u ∈ places → u < nodeCount d) × (memoryAt d + nodeCount d ≤ length ws) × (from + at (d .targetLengths) e ≤ length ws))
       × ((suits (operation (at (d .ops) e)) (length places) (at (d .targetLengths) e) ≡ true) × (length places < 2 ^ 32))
   work-asks places from p q =
       rw (p, q) (
-        (sources-before, omega (arith, sources-long d (r .accepted) e, part-fits d (r .accepted) ws (r .long) e)),
+        (source-low, omega (arith, r .long), part-fits d (r .accepted) ws (r .long) e),
         (suits-here, omega (arith, sources-long d (r .accepted) e, sources-in d (r .accepted) e, r .accepted .sources .room)),
       )
 
@@ -205,60 +176,40 @@ module _ (d : Drawing) (ws : List ℕ) (r : Runs d ws) (e : ℕ) (h : e < opCoun
       → ws' ≡ back (memoryAt d) (nodeCount d) (storeAll (targetsOf d e) (outputsIn d ws e) (memoryOf d ws)) ws
   scattered-one places from ws' p q c = c ∙ rw (p, q, targets-long d (r .accepted) e)
 
-  read-here : map (at (drop (memoryAt d) ws)) (sourcesOf d e) ≡ map (at M) (sourcesOf d e)
-  read-here = map-same (at (drop (memoryAt d) ws)) (at M) (sourcesOf d e) (λ u m. sym (getD-take (nodeCount d) (drop (memoryAt d) ws) u 0 (source-low u m)))
-
   pub outputs-long : (memory : List ℕ) → length (outputsOf d memory e) ≡ length (targetsOf d e)
   outputs-long memory = outputs-many d e memory (r .suited e h)
 
+  abbrev outs : ℕ
+  outs = at (d .targetLengths) e
+
   abbrev done : List ℕ
-  done = map (at M) (sourcesOf d e) ++ outputsOf d M e
+  done = back (outputsAt d e) outs (outputsOf d M e) ws
 
-  worked-is : worked (memoryAt d) (at (d .ops) e) (at (d .targetLengths) e) (sourcesOf d e) ws ≡ done
-  worked-is = rw (read-here, ← targets-long d (r .accepted) e)
+  done-long : length (outputsOf d M e) ≡ outs
+  done-long = outputs-long M ∙ targets-long d (r .accepted) e
 
-  done-long : length done ≡ at (d .sourceLengths) e + at (d .targetLengths) e
-  done-long =
-      length-append (map (at M) (sourcesOf d e)) (outputsOf d M e)
-      ∙ rw (length-map (sourcesOf d e) (at M), sources-long d (r .accepted) e, outputs-long M, targets-long d (r .accepted) e)
+  done-fits : outputsAt d e + outs ≤ length ws
+  done-fits = part-fits d (r .accepted) ws (r .long) e
 
-  abbrev words : ℕ
-  words = at (d .sourceLengths) e + at (d .targetLengths) e
-
-  done-fits : inputsAt d e + words ≤ length ws
-  done-fits = omega (arith, part-fits d (r .accepted) ws (r .long) e)
-
-  done-ready : Ready d M (back (inputsAt d e) words done ws) e
-  done-ready =
-      let i : length (map (at M) (sourcesOf d e)) ≡ at (d .sourceLengths) e = length-map (sourcesOf d e) (at M) ∙ sources-long d (r .accepted) e in
-      let o : length (outputsOf d M e) ≡ at (d .targetLengths) e = outputs-long M ∙ targets-long d (r .accepted) e in
-      ap (λ (j : ℕ). seg (inputsAt d e + j) (at (d .targetLengths) e) (back (inputsAt d e) words done ws)) (sym i)
-      ∙ ap (λ (j : ℕ). seg (inputsAt d e + length (map (at M) (sourcesOf d e))) j (back (inputsAt d e) words done ws)) (sym o)
-      ∙ back-tail (inputsAt d e) words (map (at M) (sourcesOf d e)) (outputsOf d M e) ws (omega (arith, done-fits))
-
-  done-keeps : (f : ℕ) → Dec (f < e) → ¬ (f ≡ e) → outputsIn d (back (inputsAt d e) words done ws) f ≡ outputsIn d ws f
-  done-keeps f (yes l) n = back-seg-before (inputsAt d e) words done ws done-fits done-long (outputsAt d f) (at (d .targetLengths) f) (parts-apart d (r .accepted) f e l)
+  done-keeps : (f : ℕ) → Dec (f < e) → ¬ (f ≡ e) → outputsIn d done f ≡ outputsIn d ws f
+  done-keeps f (yes l) n = back-seg-before (outputsAt d e) outs (outputsOf d M e) ws done-fits done-long (outputsAt d f) (at (d .targetLengths) f) (parts-apart d (r .accepted) f e l)
   done-keeps f (no l) n =
-      back-seg-after (inputsAt d e) words done ws done-fits done-long (outputsAt d f) (at (d .targetLengths) f)
-      (omega (arith, parts-apart d (r .accepted) e f (omega arith))) (part-fits d (r .accepted) ws (r .long) f)
+      back-seg-after (outputsAt d e) outs (outputsOf d M e) ws done-fits done-long (outputsAt d f) (at (d .targetLengths) f)
+      (parts-apart d (r .accepted) e f (omega arith)) (part-fits d (r .accepted) ws (r .long) f)
 
-  done-reads : Reads d e ws (back (inputsAt d e) words done ws)
+  done-reads : Reads d e ws done
   done-reads =
       record {
-        long = back-length (inputsAt d e) words done ws done-fits done-long;
-        front = back-front (inputsAt d e) words done ws (omega (arith, done-fits)) (roomAt d) (omega arith);
-        ready = done-ready;
+        long = back-length (outputsAt d e) outs (outputsOf d M e) ws done-fits done-long;
+        front = back-front (outputsAt d e) outs (outputsOf d M e) ws (omega (arith, done-fits)) (roomAt d) (omega arith);
+        ready = back-seg (outputsAt d e) outs (outputsOf d M e) ws done-fits done-long;
         keeps = λ f l n. done-keeps f (decLt f e) n;
       }
 
-  one-back : (places : List ℕ) (from : ℕ) → places ≡ sourcesOf d e → from ≡ inputsAt d e
-      → back from (length places + at (d .targetLengths) e) (worked (memoryAt d) (at (d .ops) e) (at (d .targetLengths) e) places ws) ws ≡ back (inputsAt d e) words done ws
-  one-back places from p q = rw (p, q, sources-long d (r .accepted) e, worked-is)
-
-  pub reads-one : (places : List ℕ) (from : ℕ) (ws' : List ℕ) → places ≡ sourcesOf d e → from ≡ inputsAt d e
-      → ws' ≡ back from (length places + at (d .targetLengths) e) (worked (memoryAt d) (at (d .ops) e) (at (d .targetLengths) e) places ws) ws
-      → Reads d e ws ws'
-  reads-one places from ws' p q c = rw (c ∙ one-back places from p q) done-reads
+  pub reads-one : (places : List ℕ) (from : ℕ) (ws' : List ℕ) → places ≡ sourcesOf d e → from ≡ outputsAt d e
+      → ws' ≡ back from outs (result (operation (at (d .ops) e)) (map (at M) places) outs) ws → Reads d e ws ws'
+  reads-one places from ws' p q c =
+      let same : back from outs (result (operation (at (d .ops) e)) (map (at M) places) outs) ws ≡ done = rw (p, q, ← targets-long d (r .accepted) e) in rw (c ∙ same) done-reads
 
 -- a segment of a segment
 seg-seg : (a n b len : ℕ) (l : List ℕ) → b + len ≤ n → seg (a + b) len l ≡ seg b len (seg a n l)

@@ -1,13 +1,13 @@
 -- The call `eval` in its parts: what is refused before the workspace is touched, what behind the walk, and what is left in W words.
-use Prim.Native.Nat.{ℕ, _<_}
-use mathlib.Core.Bool.{Bool, true, _&&_, cond}
+use Prim.Native.Nat.{ℕ}
+use mathlib.Core.Bool.{Bool, _&&_, cond}
 use mathlib.Core.List.{List, [], _∷_}
 use mathlib.Core.Path.{_≡_}
 use lib.ListN.{length, replicate}
 use Rattle.rules.specs.Lists.{at, has, all, range}
-use Rattle.rules.specs.Drawing.{Drawing, Boundary, nodeCount, opCount}
+use Rattle.rules.specs.Drawing.{Drawing, Boundary}
 use Rattle.rules.specs.Refusals.{firstOf, unless, within, boundaryWithin, valuesWithin, badLengths, badValue, badBoundary, shortRoom, workspaceNeed, refusalOf, written}
-use Rattle.rules.specs.Evaluation.{operation, suits, startMemory, evaluated, unplacedOp, wrongOperation}
+use Rattle.rules.specs.Evaluation.{operation, suits, evaluated, unplacedOp, wrongOperation}
 use Rattle.rules.specs.declared.Done.{Done}
 use Rattle.rules.specs.Inner.Running.{Runs, memoryOf}
 

@@ -1,15 +1,15 @@
 -- Evaluation in a workspace. Behind the layering (Inner/Layering): where each operation's sources and targets begin, m words each;
--- n words of memory; and the room, in which each operation has its inputs and its outputs side by side. No promise cites this file.
+-- n words of memory; and the room, in which each operation has a part for its outputs. No promise cites this file.
 use Prim.Native.Nat.{ℕ, _+_, _-_, _*_, _≤_, _<_}
 use mathlib.Core.Bool.{true}
-use mathlib.Core.List.{List, _++_, map}
+use mathlib.Core.List.{List, map}
 use mathlib.Core.Path.{_≡_}
-use lib.ListN.{length, getD, take, drop}
+use lib.ListN.{length, getD, take}
 use Rattle.rules.specs.Lists.{at, sum, seg, concat}
 use Rattle.rules.specs.Drawing.{Drawing, Accepted, nodeCount, opCount, targetsOf}
 use Rattle.rules.specs.Analysis.{orders, layerOperations, layerOffsets}
 use Rattle.rules.specs.Refusals.{workspaceNeed}
-use Rattle.rules.specs.Evaluation.{operation, result, outputsOf, suitsAt, runLayer, storeAll}
+use Rattle.rules.specs.Evaluation.{outputsOf, suitsAt, runLayer, storeAll}
 
 -- where memory begins, and the room behind it
 abbrev pub memoryAt : Drawing → ℕ
@@ -22,12 +22,9 @@ roomAt d = memoryAt d + nodeCount d
 abbrev pub memoryOf : Drawing → List ℕ → List ℕ
 memoryOf d ws = seg (memoryAt d) (nodeCount d) ws
 
--- operation e's part of the room: its inputs, and its outputs behind them
-abbrev pub inputsAt : Drawing → ℕ → ℕ
-inputsAt d e = roomAt d + sum (take e (d .sourceLengths)) + sum (take e (d .targetLengths))
-
+-- operation e's part of the room: its outputs, behind those of the operations before it
 abbrev pub outputsAt : Drawing → ℕ → ℕ
-outputsAt d e = inputsAt d e + at (d .sourceLengths) e
+outputsAt d e = roomAt d + sum (take e (d .targetLengths))
 
 abbrev pub outputsIn : Drawing → List ℕ → ℕ → List ℕ
 outputsIn d ws e = seg (outputsAt d e) (at (d .targetLengths) e) ws
@@ -49,10 +46,6 @@ pub record Runs (d : Drawing) (ws : List ℕ) : Type 0 where
   pub suited : (e : ℕ) → e < opCount d → suitsAt d e ≡ true
   pub long : length ws ≡ workspaceNeed d
   pub tables : Tables d ws
-
--- an operation in the room: its inputs, read from the memory that begins at base, and behind them its outputs
-abbrev pub worked : (base label outs : ℕ) (places ws : List ℕ) → List ℕ
-worked base label outs places ws = map (at (drop base ws)) places ++ result (operation label) (map (at (drop base ws)) places) outs
 
 -- operation e has read its inputs from a memory and written its outputs into the room
 abbrev pub Ready : Drawing → (memory ws : List ℕ) → ℕ → Type 0
