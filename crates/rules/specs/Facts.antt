@@ -4,9 +4,11 @@
 pub mod Convex
 pub mod FoldDraw
 pub mod Demand3
+pub mod Fine
 pub mod IncidenceTheorem
 pub mod Orders
 pub mod Determined
+pub mod DeterminedFaces
 pub mod ReadsFirst
 pub mod NumberAgain
 pub mod OutputLong

@@ -3,7 +3,7 @@ use Prim.Native.Nat.{ℕ, zero, suc, _<_, _≤_}
 use native.Mathlib.Omega.{arith}
 use mathlib.Core.Bool.{Bool, true, false, _&&_}
 use mathlib.Core.List.{List, [], _∷_}
-use mathlib.Core.Logic.{inl}
+use mathlib.Core.Logic.{inl, _↔_}
 use mathlib.Core.Path.{_≡_, refl, sym, _∙_}
 use Rattle.rules.specs.declared.Refusal.{Refusal}
 use Rattle.rules.specs.Drawing.{Drawing, Maps, Accepted, AcceptedMaps}
@@ -11,9 +11,11 @@ use Rattle.rules.specs.Inner.Arrow.{arrowInputsRefusal, arrowListsRefusa
 use Rattle.rules.specs.Refusals.{badLengths, unless, within, mapsWithin, badValue, workspaceNeed, badEntry, entriesBelow, firstOf, shortRoom, lengthsFit, valuesBelow, number}
 use Rattle.rules.specs.Inner.Checks.{listsRefusal}
 use Rattle.rules.specs.Calls.{mapsRefusal, validateRefusal, convexRefusal, naturalRefusal}
-use Rattle.rules.specs.Facts.Refusing.{Early, first-append, early-first, early-unless, first-behind, enough, short, number-some}
-use Rattle.rules.specs.Facts.Tests.{first-none, both, unless-none, none-first, none-unless}
-use Rattle.rules.specs.Facts.Accepts.{tests-accept, maps-iff}
+use Rattle.rules.specs.Facts.Refusing.{Early, front-none, first-append, early-first, early-unless, first-behind, enough, short, number-some}
+use Rattle.rules.specs.Facts.Tests.{first-none, both, both-hold, unless-none, none-first, none-unless}
+use Rattle.rules.specs.Facts.Accepts.{tests-accept, maps-iff, within-holds, lengths-hold, values-hold}
+use Rattle.rules.specs.Facts.Naturality.{natural-iff}
+use Rattle.rules.specs.Maps.{Natural}
 
 module _ (c d : Drawing) (f : Maps) where
   abbrev all-within : Bool
@@ -61,6 +63,19 @@ module _ (c d : Drawing) (f : Maps) where
         (maps-iff f) .0 (none-first (unless (mapsWithin f) 1) (badEntry f ∷ []) (none-unless (mapsWithin f) 1 (w .1)) (p5 .1)),
       )
 
+  -- and the other way round
+  pub accepted-inputs : Accepted c → Accepted d → AcceptedMaps f → arrowInputsRefusal c d f ≡ 0
+  unfolding arrowInputsRefusal mapsRefusal
+  accepted-inputs ac ad am =
+      let m = first-none (unless (mapsWithin f) 1) (badEntry f ∷ []) ((maps-iff f) .1 am) in
+      let w = both-hold (within c) (within d) (within-holds c ac) (within-holds d ad) in
+      none-first (unless all-within 1) (badLengths c ∷ badValue c ∷ of-d)
+      (none-unless all-within 1 (both-hold (within c && within d) (mapsWithin f) w (unless-none (mapsWithin f) 1 (omega arith) (m .0))))
+      (none-first (badLengths c) (badValue c ∷ of-d) (none-unless (lengthsFit c) 2 (lengths-hold c ac))
+      (none-first (badValue c) of-d (none-unless (valuesBelow c) 3 (values-hold c ac))
+      (none-first (badLengths d) (badValue d ∷ badEntry f ∷ []) (none-unless (lengthsFit d) 2 (lengths-hold d ad))
+      (none-first (badValue d) (badEntry f ∷ []) (none-unless (valuesBelow d) 3 (values-hold d ad)) (m .1)))))
+
   pub inputs-early : Early (arrowInputsRefusal c d f)
   unfolding arrowInputsRefusal
   inputs-early =
@@ -83,6 +98,17 @@ module _ (c d : Drawing) (f : Maps) where
       alone : (k : ℕ) → firstOf (k ∷ []) ≡ k
       alone zero = refl
       alone (suc k) = refl
+
+  -- refused with none of 1 to 10: valid drawings and maps, and the maps are natural
+  pub validate-iff : (validateRefusal c d f ≡ 0) ↔ (Accepted c × Accepted d × AcceptedMaps f × Natural c d f)
+  unfolding arrowInputsRefusal validateRefusal
+  validate-iff = (
+    λ e.
+        let i = front-none checks (naturalRefusal c d f ∷ []) e in
+        let a = inputs-accepted i in
+        (a .0, a .1, a .2, (natural-iff c d f) .0 (sym (validate-behind i) ∙ e)),
+    λ a. validate-behind (accepted-inputs (a .0) (a .1) (a .2)) ∙ (natural-iff c d f) .1 (a .3),
+  )
 
   -- convexity: one of 1 to 4, or 11
   module _ (room : ℕ) where

@@ -1,7 +1,7 @@
 -- Tests that compute, each with a proof that it decides its rule: reached, acyclic, no road, no entry twice, convex.
 use Prim.Native.Nat.{ℕ, zero, suc, _<_}
 use native.Mathlib.Omega.{arith}
-use mathlib.Core.Bool.{Bool, true, _||_, _&&_, not}
+use mathlib.Core.Bool.{Bool, true, false, _||_, _&&_, not}
 use mathlib.Core.Path.{_≡_, refl, sym, ap}
 use mathlib.Core.Logic.{_⊎_, inl, inr, _↔_}
 use mathlib.Core.List.{List, [], _∷_, List·Memᴰ·not-nil, Memᴰ·cast}
@@ -11,7 +11,7 @@ use Rattle.rules.specs.Drawing.{Drawing, Accepted, sourcesOf, targetsOf,
 use Rattle.rules.specs.Fold.{outside}
 use Rattle.rules.specs.Graph.{Route, one, more, first}
 use Rattle.rules.specs.Lists.{_∈_, has, any}
-use Rattle.rules.specs.Maps.{Road, Convex, Injective, nodesOf, opsOf}
+use Rattle.rules.specs.Maps.{Road, Monomorphism, Convex, Injective, nodesOf, opsOf}
 use Rattle.rules.specs.Facts.Bools.{or-cases, or-l, or-r, and-i, and-e}
 use Rattle.rules.specs.Facts.Member.{∈-part, part-inside, any-e, any-i, has-i, has-e, ∈-getD, getD-∈}
 use Rattle.rules.specs.Facts.Outside.{outside-∈, ∈-outside}
@@ -179,3 +179,15 @@ not-convex c d f a t h = T-not (convexB c d f) t ((convex-iff c d f ((accepted-i
 
 pub is-acyclic : (d : Drawing) → drawingRefusal d ≡ 0 → T (acyclicB d) → Acyclic d
 is-acyclic d a t = (acyclic-iff ((accepted-iff d) .0 a)) .0 t
+
+-- a group that is natural and injective, and has a road
+pub is-injective : (f : Maps) → T (distinct (nodesOf f)) → T (distinct (opsOf f)) → Monomorphism f
+is-injective f p q = record { nodes = distinct-e (nodesOf f) p; ops = distinct-e (opsOf f) q }
+
+pub is-road : (d : Drawing) (w x : List ℕ) → drawingRefusal d ≡ 0 → T (not (noRoadB d w x)) → Road d w x
+unfolding noRoadB
+is-road d w x a t = road ((accepted-iff d) .0 a) w x (T-again (any (out ((accepted-iff d) .0 a) w x) (outside x (opCount d))) t)
+  where
+    T-again : (b : Bool) → T (not (not b)) → T b
+    T-again true t = tt
+    T-again false t = t

@@ -1,4 +1,4 @@
--- DETERMINISM: two results that meet a call's promise on the same input are equal in answer, outputs and workspace.
+-- DETERMINISM: two results that meet a call's promise on the same input are equal in answer, outputs and workspace. The C faces: DeterminedFaces.
 use Prim.Native.Nat.{ℕ}
 use mathlib.Core.Bool.{Bool}
 use mathlib.Core.List.{List, [], _∷_}
@@ -101,13 +101,11 @@ validate-determined {r = r} {s} p q = done-same r s (p .refusal ∙ sym (q .refu
 -- the converses and the adjacencies, and their sizes
 pub writes-rows-determined : {rows : ℕ → List ℕ} {k refused words : ℕ} {lens lens₁ lens₂ vals vals₁ vals₂ ws ws₁ ws₂ : List ℕ} {r s : Done}
     → WritesRows rows k refused words lens lens₁ vals vals₁ ws ws₁ r → WritesRows rows k refused words lens lens₂ vals vals₂ ws ws₂ s
-    → (r ≡ s) × (lens₁ ≡ lens₂) × (vals₁ ≡ vals₂) × (ws₁ ≡ ws₂)
+    → (r ≡ s) × ((lens₁ ≡ lens₂) × (vals₁ ≡ vals₂) × (ws₁ ≡ ws₂))
 writes-rows-determined {r = r} {s} p q =
     let e : refusalOf r ≡ refusalOf s = p .refusal ∙ sym (q .refusal) in (
       done-same r s e,
-      p .lengths ∙ rw e (sym (q .lengths)),
-      p .values ∙ rw e (sym (q .values)),
-      p .workspace ∙ rw e (sym (q .workspace)),
+      (p .lengths ∙ rw e (sym (q .lengths)), p .values ∙ rw e (sym (q .values)), p .workspace ∙ rw e (sym (q .workspace))),
     )
 
 pub rows-size-determined : {d : Drawing} {rows : ℕ → List ℕ} {k : ℕ} {r s : Size} → RowsSize d rows k r → RowsSize d rows k s → r ≡ s
@@ -120,21 +118,18 @@ is-acyclic-determined {r = r} {s} p q =
     (verdict-same r s e (p .yes) (p .no) (q .yes) (q .no), p .workspace ∙ rw e (sym (q .workspace)))
 
 pub layer-determined : {d : Drawing} {os os₁ os₂ ms ms₁ ms₂ ws ws₁ ws₂ : List ℕ} {r s : Done} → Layer d os os₁ ms ms₁ ws ws₁ r → Layer d os os₂ ms ms₂ ws ws₂ s
-    → (r ≡ s) × (os₁ ≡ os₂) × (ms₁ ≡ ms₂) × (ws₁ ≡ ws₂)
+    → (r ≡ s) × ((os₁ ≡ os₂) × (ms₁ ≡ ms₂) × (ws₁ ≡ ws₂))
 layer-determined {r = r} {s} p q =
     let e : refusalOf r ≡ refusalOf s = p .refusal ∙ sym (q .refusal) in
-    (done-same r s e, p .orders' ∙ rw e (sym (q .orders')), p .marks' ∙ rw e (sym (q .marks')), p .workspace ∙ rw e (sym (q .workspace)))
+    (done-same r s e, (p .orders' ∙ rw e (sym (q .orders')), p .marks' ∙ rw e (sym (q .marks')), p .workspace ∙ rw e (sym (q .workspace))))
 
 pub layered-operations-determined : {d : Drawing} {es es₁ es₂ offs offs₁ offs₂ ms ms₁ ms₂ ws ws₁ ws₂ : List ℕ} {r s : Done}
     → LayeredOperations d es es₁ offs offs₁ ms ms₁ ws ws₁ r → LayeredOperations d es es₂ offs offs₂ ms ms₂ ws ws₂ s
-    → (r ≡ s) × (es₁ ≡ es₂) × (offs₁ ≡ offs₂) × (ms₁ ≡ ms₂) × (ws₁ ≡ ws₂)
+    → (r ≡ s) × ((es₁ ≡ es₂) × (offs₁ ≡ offs₂) × (ms₁ ≡ ms₂) × (ws₁ ≡ ws₂))
 layered-operations-determined {r = r} {s} p q =
     let e : refusalOf r ≡ refusalOf s = p .refusal ∙ sym (q .refusal) in (
       done-same r s e,
-      p .operations' ∙ rw e (sym (q .operations')),
-      p .offsets' ∙ rw e (sym (q .offsets')),
-      p .marks' ∙ rw e (sym (q .marks')),
-      p .workspace ∙ rw e (sym (q .workspace)),
+      (p .operations' ∙ rw e (sym (q .operations')), p .offsets' ∙ rw e (sym (q .offsets')), p .marks' ∙ rw e (sym (q .marks')), p .workspace ∙ rw e (sym (q .workspace))),
     )
 
 pub offsets-sound-determined : {ops offsets : List ℕ} {r s : Bool} → OffsetsSound ops offsets r → OffsetsSound ops offsets s → r ≡ s
@@ -157,7 +152,7 @@ is-convex-subgraph-determined {r = r} {s} p q =
 
 -- evaluation
 pub eval-determined : {d : Drawing} {b : Boundary} {values out out₁ out₂ ws ws₁ ws₂ : List ℕ} {r s : Done} → Eval d b values out out₁ ws ws₁ r → Eval d b values out out₂ ws ws₂ s
-    → (r ≡ s) × (out₁ ≡ out₂) × (ws₁ ≡ ws₂)
+    → (r ≡ s) × ((out₁ ≡ out₂) × (ws₁ ≡ ws₂))
 eval-determined {r = r} {s} p q =
     let e : refusalOf r ≡ refusalOf s = p .refusal ∙ sym (q .refusal) in
-    (done-same r s e, p .output ∙ rw e (sym (q .output)), p .workspace ∙ rw e (sym (q .workspace)))
+    (done-same r s e, (p .output ∙ rw e (sym (q .output)), p .workspace ∙ rw e (sym (q .workspace))))

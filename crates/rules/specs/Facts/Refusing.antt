@@ -52,6 +52,11 @@ first-behind [] rest e = refl
 first-behind (zero ∷ l) rest e = first-behind l rest e
 first-behind (suc a ∷ l) rest e = absurd (omega arith)
 
+pub front-none : (l rest : List ℕ) → firstOf (l ++ rest) ≡ 0 → firstOf l ≡ 0
+front-none [] rest e = refl
+front-none (zero ∷ l) rest e = front-none l rest e
+front-none (suc a ∷ l) rest e = absurd (omega arith)
+
 -- a test that holds gives none, one that does not gives its number
 pub holds : (b : Bool) (k : ℕ) → b ≡ true → unless b k ≡ 0
 holds b k e = rw e

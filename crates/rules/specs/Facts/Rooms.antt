@@ -1,5 +1,5 @@
 -- Several rooms tested together by |, and a list of refusals whose front is the check of a drawing.
-use Prim.Native.Nat.{ℕ, _≤_}
+use Prim.Native.Nat.{ℕ, _+_, _≤_}
 use mathlib.Core.Bool.{Bool, true, false, _||_}
 use mathlib.Core.List.{List, [], _∷_, _++_}
 use mathlib.Core.Path.{_≡_, refl, sym, _∙_}
@@ -7,11 +7,11 @@ use native.Mathlib.Omega.{arith}
 use lib.Dec.{ltb}
 use borrow.Author.Tests.{ltb-true, ltb-false}
 use Rattle.rules.specs.declared.Refusal.{Refusal}
-use Rattle.rules.specs.Refusals.{firstOf, shortRoom, unless, number, within, badLengths, badValue}
-use Rattle.rules.specs.Drawing.{Drawing}
+use Rattle.rules.specs.Refusals.{firstOf, shortRoom, unless, number, within, badLengths, badValue, workspaceNeed}
+use Rattle.rules.specs.Drawing.{Drawing, opCount}
 use Rattle.rules.specs.Inner.Rooms.{roomsShort}
 use Rattle.rules.specs.Facts.Refusing.{first-append, short, first-behind, enough, number-some}
-use Rattle.rules.specs.Calls.{drawingRefusal}
+use Rattle.rules.specs.Calls.{drawingRefusal, acyclicRefusal, twoOutputsRefusal, layeredRefusal}
 
 -- l: what the rooms are refused with; short: whether one of them is too short
 pub record Rooms (l : List ℕ) (short : Bool) : Type 0 where
@@ -72,3 +72,21 @@ module _ (d : Drawing) (rest : List ℕ) where
   pub behind-fine : drawingRefusal d ≡ 0 → firstOf behind ≡ firstOf rest
   unfolding drawingRefusal
   behind-fine e = first-behind (unless (within d) 1 ∷ badLengths d ∷ badValue d ∷ []) rest e
+
+-- a valid drawing and enough room: the calls are not refused
+module _ (d : Drawing) (valid : drawingRefusal d ≡ 0) where
+  pub acyclic-enough : (room : ℕ) → workspaceNeed d ≤ room → acyclicRefusal d room ≡ 0
+  unfolding acyclicRefusal
+  acyclic-enough room h = behind-fine d (shortRoom (workspaceNeed d) room ∷ []) valid ∙ rw (enough (workspaceNeed d) room h)
+
+  pub two-enough : (need₁ room₁ need₂ room₂ room : ℕ) → need₁ ≤ room₁ → need₂ ≤ room₂ → workspaceNeed d ≤ room → twoOutputsRefusal d need₁ room₁ need₂ room₂ room ≡ 0
+  unfolding twoOutputsRefusal
+  two-enough need₁ room₁ need₂ room₂ room h₁ h₂ h =
+      behind-fine d (shortRoom need₁ room₁ ∷ shortRoom need₂ room₂ ∷ shortRoom (workspaceNeed d) room ∷ []) valid
+      ∙ rw (enough need₁ room₁ h₁, enough need₂ room₂ h₂, enough (workspaceNeed d) room h)
+
+  pub layered-enough : (es offs ms room : ℕ) → opCount d ≤ es → opCount d + 1 ≤ offs → opCount d ≤ ms → workspaceNeed d ≤ room → layeredRefusal d es offs ms room ≡ 0
+  unfolding layeredRefusal
+  layered-enough es offs ms room h₁ h₂ h₃ h =
+      behind-fine d (shortRoom (opCount d) es ∷ shortRoom (opCount d + 1) offs ∷ shortRoom (opCount d) ms ∷ shortRoom (workspaceNeed d) room ∷ []) valid
+      ∙ rw (enough (opCount d) es h₁, enough (opCount d + 1) offs h₂, enough (opCount d) ms h₃, enough (workspaceNeed d) room h)
