@@ -127,10 +127,10 @@ uint32_t tiwelzam_layered_operations(TIWELZAM_DRAWING(), TIWELZAM_ROOM(operation
  * 1 or 0 into *word. Refuses nothing. */
 uint32_t tiwelzam_offsets_sound(TIWELZAM_LIST(operations), TIWELZAM_LIST(offsets), uint32_t *word);
 
-/* Where one layer stands in the operations: its start and length into *start and *length. For an unknown layer, or
+/* Where one layer stands in the operations: its start into *start, its length into *count. For an unknown layer, or
  * where the offsets are not sound, both are 0. Refuses nothing. */
 uint32_t tiwelzam_layer_at(TIWELZAM_LIST(operations), TIWELZAM_LIST(offsets), size_t layer, uint32_t *start,
-                           uint32_t *length);
+                           uint32_t *count);
 
 /* ---- Maps from a first drawing (c) into a second (d) ------------------------------------------------------------ */
 

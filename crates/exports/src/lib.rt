@@ -406,16 +406,16 @@ pub extern "C" fn tiwelzam_layer_at(
     offsets: &[u32],
     i: usize,
     start: &mut u32,
-    length: &mut u32,
+    count: &mut u32,
 ) -> u32
-    ensures { λ r. ⌜ LayerAtFace (now (operations .entry)) (now (offsets .entry)) i (now (start .exit)) (now (length .exit)) r ⌝ }
+    ensures { λ r. ⌜ LayerAtFace (now (operations .entry)) (now (offsets .entry)) i (now (start .exit)) (now (count .exit)) r ⌝ }
 {
     if layers::lookup::offsets_sound(operations, offsets) & (i < operations.len()) {
         *start = offsets[i];
-        *length = offsets[i + 1] - offsets[i];
+        *count = offsets[i + 1] - offsets[i];
     } else {
         *start = 0;
-        *length = 0;
+        *count = 0;
     }
     0
 }

@@ -66,8 +66,8 @@ pub record SoundFace (ops offsets : List ℕ) (word' r : ℕ) : Type 0 where
 abbrev pub layerStart : (ops offsets : List ℕ) (i : ℕ) → ℕ
 layerStart ops offsets i = cond (sound ops offsets && ltb i (length ops)) (at offsets i) 0
 
-pub record LayerAtFace (ops offsets : List ℕ) (i start' length' r : ℕ) : Type 0 where
+pub record LayerAtFace (ops offsets : List ℕ) (i start' count' r : ℕ) : Type 0 where
   pub number : r ≡ 0
   pub start : start' ≡ layerStart ops offsets i
-  pub part : seg start' length' ops ≡ layerPart ops offsets i
-  pub long : length' ≡ length (layerPart ops offsets i)
+  pub part : seg start' count' ops ≡ layerPart ops offsets i
+  pub long : count' ≡ length (layerPart ops offsets i)

@@ -11,9 +11,13 @@ abbrev pub outside : List ℕ → ℕ → List ℕ
 outside l zero = []
 outside l (suc k) = outside l k ++ cond (has l k) [] (k ∷ [])
 
--- a node's new number: the unselected ones keep their order, and the selected ones become the node behind them
+-- the number of the new node: it stands behind the unselected ones
+abbrev pub newNode : List ℕ → ℕ → ℕ
+newNode w n = length (outside w n)
+
+-- a node's new number: the unselected ones keep their order, and the selected ones become the new node
 abbrev pub rename : List ℕ → ℕ → ℕ → ℕ
-rename w n u = cond (has w u) (length (outside w n)) (length (outside w u))
+rename w n u = cond (has w u) (newNode w n) (length (outside w u))
 
 -- Each unselected operation keeps its label and its lists, with the new numbers. The new node stands last and has the label 0; where no
 -- node is selected there is none.

@@ -16,6 +16,8 @@ abbrev pub opsOf : Maps → List ℕ
 opsOf f = f .x .entries
 
 -- Natural, from the drawing c into d: validation gives none of 5 to 10. The first two fields are against 5, the next two against 6, and so on.
+-- It speaks of valid maps between valid drawings, as validation looks at 5 to 10 only behind 1 to 4: of an entry that is no node or no
+-- operation it says nothing, since `at` gives 0 past the end. Validation is fine exactly if all are valid and the maps natural: `validate-fine`.
 pub record Natural (c d : Drawing) (f : Maps) : Type 0 where
   pub wCount : length (nodesOf f) ≡ nodeCount c
   pub wTarget : f .w .target ≡ nodeCount d

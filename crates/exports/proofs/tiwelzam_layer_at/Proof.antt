@@ -56,23 +56,23 @@ mul-start c = omega (arith, low c, facts c .long)
 shared-slice-read-start : tie.Need-shared-slice-read-start
 shared-slice-read-start c = omega (arith, low (c .before), facts (c .before) .long)
 
-add-length : tie.Need-add-length
-add-length c = omega (arith, low (c .before))
+add-count : tie.Need-add-count
+add-count c = omega (arith, low (c .before))
 
-mul-length : tie.Need-mul-length
-mul-length c = omega (arith, low (c .before), facts (c .before) .long)
+mul-count : tie.Need-mul-count
+mul-count c = omega (arith, low (c .before), facts (c .before) .long)
 
-shared-slice-read-length : tie.Need-shared-slice-read-length
-shared-slice-read-length c = omega (arith, low (c .before .before), facts (c .before .before) .long)
+shared-slice-read-count : tie.Need-shared-slice-read-count
+shared-slice-read-count c = omega (arith, low (c .before .before), facts (c .before .before) .long)
 
-mul-length-2 : tie.Need-mul-length-2
-mul-length-2 c = omega (arith, low (c .before .before), facts (c .before .before) .long)
+mul-count-2 : tie.Need-mul-count-2
+mul-count-2 c = omega (arith, low (c .before .before), facts (c .before .before) .long)
 
-shared-slice-read-length-2 : tie.Need-shared-slice-read-length-2
-shared-slice-read-length-2 c = omega (arith, low (c .before .before .before), facts (c .before .before .before) .long)
+shared-slice-read-count-2 : tie.Need-shared-slice-read-count-2
+shared-slice-read-count-2 c = omega (arith, low (c .before .before .before), facts (c .before .before .before) .long)
 
-sub-length : tie.Need-sub-length
-sub-length c = part-starts (facts (c .before .before .before)) (i (o (c .before .before .before))) (low (c .before .before .before))
+sub-count : tie.Need-sub-count
+sub-count c = part-starts (facts (c .before .before .before)) (i (o (c .before .before .before))) (low (c .before .before .before))
 
 returns : tie.Need-returns
 returns c = let k = o (c .before .before .before) in face-there (ops k) (offs k) (i k) (holds (c .before .before .before))
@@ -87,11 +87,11 @@ tiwelzam-layer-at-spec =
     offsets-sound-requires
     mul-start
     shared-slice-read-start
-    add-length
-    mul-length
-    shared-slice-read-length
-    mul-length-2
-    shared-slice-read-length-2
-    sub-length
+    add-count
+    mul-count
+    shared-slice-read-count
+    mul-count-2
+    shared-slice-read-count-2
+    sub-count
     returns
     returns-2)

@@ -9,7 +9,7 @@ use lib.ListN.{length, getD, drop, length-map}
 use lib.Seq.{take-at, drop-append-add}
 use Rattle.rules.specs.Analysis.{Step, Acyclic}
 use Rattle.rules.specs.Drawing.{Drawing, Accepted, part, sourcesOf, targetsOf, nodeCount, opCount, Maps}
-use Rattle.rules.specs.Fold.{outside, rename, fold}
+use Rattle.rules.specs.Fold.{outside, newNode, rename, fold}
 use Rattle.rules.specs.Lists.{_∈_, concat}
 use Rattle.rules.specs.Maps.{Natural, Convex, Monomorphism, Road, nodesOf, opsOf}
 use Rattle.rules.specs.Facts.Convex.{Closed, closed}
@@ -17,7 +17,7 @@ use Rattle.rules.specs.Facts.FoldRel.{Folding, fold-iff}
 use Rattle.rules.specs.Facts.Member.{dec∈, getD-∈, ∈-getD, ∈-map, ∈-map-inv, ∈-part, has-yes, has-no, part-inside}
 use Rattle.rules.specs.Facts.Outside.{outside-∈, ∈-outside, length-outside, outside-≤}
 
-pub rename-in : (w : List ℕ) (n u : ℕ) → u ∈ w → rename w n u ≡ length (outside w n)
+pub rename-in : (w : List ℕ) (n u : ℕ) → u ∈ w → rename w n u ≡ newNode w n
 rename-in w n u m = rw has-yes
 
 pub rename-out : (w : List ℕ) (n u : ℕ) → ¬ (u ∈ w) → rename w n u ≡ length (outside w u)
