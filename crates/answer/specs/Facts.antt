@@ -64,9 +64,8 @@ module _ (d : Drawing) (free : layerRefusal d mostCounted mostCounted mostWords 
     layers-few = rw (orders-front, marks-front) (omega (arith, orders-length d, few), marks-length ∙ sym (orders-length d))
 
 -- the check of the drawing and the boundary refuses
-pub check-refused : (d : Drawing) (b : Boundary) (values : List ℕ) (r : Done) (why : Refusal) (k : ℕ) → refusalOf r ≡ boundaryRefusal d b → r ≡ Faulty why → k ≡ number why
-    → answer d b values ≡ refusedLine k
-check-refused d b values r why k e q n = answer-refused d b values why (sym (faulty-number r why e q)) ∙ ap refusedLine (sym n)
+pub check-refused : (d : Drawing) (b : Boundary) (values : List ℕ) (r : Done) (why : Refusal) → refusalOf r ≡ boundaryRefusal d b → r ≡ Faulty why → answer d b values ≡ refusedLine (number why)
+check-refused d b values r why e q = answer-refused d b values why (sym (faulty-number r why e q))
 
 -- it passes, and the lists are small
 module _ (d : Drawing) (b : Boundary) (values : List ℕ) (z : boundaryRefusal d b ≡ 0) where
@@ -86,9 +85,9 @@ module _ (d : Drawing) (b : Boundary) (values : List ℕ) (z : boundaryRefusal d
       eval-number : refusalOf r ≡ firstOf (unplacedOp d ∷ wrongOperation d ∷ [])
       eval-number = e .refusal ∙ eval-refused d b z values (length out) (length ws) (omega (arith, s .given)) (omega (arith, s .outputs)) (omega (arith, s .workspace))
 
-      pub closing-refused : (why : Refusal) (k : ℕ) → r ≡ Faulty why → k ≡ number why → closing d b values ≡ refusedLine k
+      pub closing-refused : (why : Refusal) → r ≡ Faulty why → closing d b values ≡ refusedLine (number why)
       unfolding closing
-      closing-refused why k q n = rw (← faulty-number r why eval-number q, n) (values-refused why (evaluated d b values))
+      closing-refused why q = rw (← faulty-number r why eval-number q) (values-refused why (evaluated d b values))
 
       values-front : r ≡ Fine → take (length (b .outputs)) out' ≡ evaluated d b values
       values-front q = front (refusalOf r) (evaluated d b values) out out' (length (b .outputs)) (ap refusalOf q) (evaluated-length d b values) (e .output)

@@ -2,7 +2,7 @@
 use eval::eval;
 use layers::layer::layer;
 use rules::Done;
-use rules::number_of;
+use rules::Refusal;
 use text::Text;
 use text::reader::read_text;
 use text::reader::section;
@@ -78,7 +78,7 @@ fn put_closing(
         &mut results,
         &mut ws,
     ) {
-        Done::Faulty(why) => put_refused(out, at, number_of(why)),
+        Done::Faulty(why) => put_refused(out, at, why),
         Done::Fine => {
             let k = outputs.len();
             put_values(out, at, &results[..k])
@@ -104,7 +104,7 @@ fn put_answer(
     ensures { λ r. ⌜ Put (answerOf (drawing (now (w .entry)) (now (x .entry)) (now (sl .entry)) (now (sv .entry)) (now (tl .entry)) (now (tv .entry))) (boundary (now (inputs .entry)) (now (outputs .entry))) (now (values .entry))) 0 (now (out .entry)) (now (out .exit)) r ⌝ }
 {
     match hypergraph::check::check_boundary(w, x, sl, sv, tl, tv, inputs, outputs) {
-        Done::Faulty(why) => put_refused(out, 0, number_of(why)),
+        Done::Faulty(why) => put_refused(out, 0, why),
         Done::Fine => {
             let at = put_layers(w, x, sl, sv, tl, tv, out);
             put_closing(w, x, sl, sv, tl, tv, inputs, outputs, values, out, at)
@@ -138,12 +138,12 @@ fn put_output(text: &[u8], out: &mut [u8]) -> usize
     ensures { λ r. ⌜ Put (outputOf (now (text .entry))) 0 (now (out .entry)) (now (out .exit)) r ⌝ }
 {
     if 65536 < text.len() {
-        return put_refused(out, 0, 1);
+        return put_refused(out, 0, Refusal::OverLimit);
     }
     let mut counts = [0u32; 9];
     let mut numbers = [0u32; 3840];
     match read_text(text, &mut counts, &mut numbers) {
-        Text::Refused(k) => put_refused(out, 0, k),
+        Text::Refused(why) => put_refused(out, 0, why),
         Text::Read => put_sections(&counts, &numbers, out),
     }
 }

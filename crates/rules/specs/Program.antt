@@ -7,11 +7,12 @@ use lib.Dec.{eqb, ltb, leb}
 use Rattle.rules.specs.Chars.{bytes}
 use Rattle.rules.specs.Lists.{those}
 use Rattle.rules.specs.Drawing.{Drawing, Boundary, drawing, boundary, opCount}
-use Rattle.rules.specs.Refusals.{firstOf}
+use Rattle.rules.specs.Refusals.{number, firstOf}
 use Rattle.rules.specs.Analysis.{orders, marks}
 use Rattle.rules.specs.Evaluation.{evaluated, unplacedOp, wrongOperation}
 use Rattle.rules.specs.Calls.{boundaryRefusal}
 use Rattle.rules.specs.Text.{Sections, whole, broken, wholeText, mostBytes}
+use Rattle.rules.specs.declared.Refusal.the-variants.{OverLimit}
 
 -- the last digits of n: as many as it has, or as the first number says
 unfoldable pub spelled : ℕ → ℕ → List ℕ
@@ -81,11 +82,11 @@ valuesIn ls = getD ls 8 []
 
 abbrev pub answerTo : Sections → List ℕ
 answerTo (whole ls) = answer (drawingIn ls) (boundaryIn ls) (valuesIn ls)
-answerTo (broken ls ms k) = refusedLine k
+answerTo (broken ls ms why) = refusedLine (number why)
 
 -- Over 65,536 bytes gives 1; otherwise the first fault from the left, then the checks, then the answer.
 unfoldable pub outputOf : List ℕ → List ℕ
-outputOf t = cond (leb (length t) mostBytes) (answerTo (wholeText t)) (refusedLine 1)
+outputOf t = cond (leb (length t) mostBytes) (answerTo (wholeText t)) (refusedLine (number OverLimit))
 
 -- the words of workspace that a drawing in a text can need: 8 (256 + 256) + 2 (1024 + 1024) + 8
 abbrev pub mostWords : ℕ

@@ -18,11 +18,11 @@ mostNumbers = 3840
 -- the numbers that were read, which are stored from the front of the lent list
 abbrev pub kept : Numbers → List ℕ
 kept (allRead ns end) = ns
-kept (fault ns k) = ns
+kept (fault ns why) = ns
 
 abbrev pub sectionAnswer : Numbers → Section
 sectionAnswer (allRead ns end) = SectionRead (length ns) end
-sectionAnswer (fault ns k) = SectionRefused k
+sectionAnswer (fault ns why) = SectionRefused why
 
 -- One section was read: the answer, and what the lent list then holds.
 pub record ReadNumbers (g : Numbers) (out out' : List ℕ) (r : Section) : Type 0 where
@@ -36,15 +36,15 @@ lengths (ns ∷ ls) = length ns ∷ lengths ls
 -- the sections that were read to their end, and all numbers that were read
 abbrev pub finished : Sections → List (List ℕ)
 finished (whole ls) = ls
-finished (broken ls ms k) = ls
+finished (broken ls ms why) = ls
 
 abbrev pub numbersOf : Sections → List ℕ
 numbersOf (whole ls) = concat ls
-numbersOf (broken ls ms k) = concat ls ++ ms
+numbersOf (broken ls ms why) = concat ls ++ ms
 
 abbrev pub textAnswer : Sections → Text
 textAnswer (whole ls) = TextRead
-textAnswer (broken ls ms k) = TextRefused k
+textAnswer (broken ls ms why) = TextRefused why
 
 -- A whole text was read: the answer, how many numbers each finished section has, and the numbers, section behind section.
 pub record ReadText (s : Sections) (counts counts' numbers numbers' : List ℕ) (r : Text) : Type 0 where

@@ -3,17 +3,17 @@ pub mod lines;
 pub mod reader;
 pub mod writer;
 
+use rules::Refusal;
+
 // What was read of a section.
 pub enum Section {
     // How many numbers, and the place behind the last.
     Read(usize, usize),
-    // The number of the refusal.
-    Refused(u32),
+    Refused(Refusal),
 }
 
 // What was read of a whole text.
 pub enum Text {
     Read,
-    // The number of the refusal.
-    Refused(u32),
+    Refused(Refusal),
 }

@@ -9,6 +9,7 @@ ghost use Rattle.text.specs.Reading.{ReadNumbers, ReadText, sectionsOf, 
 use crate::Section;
 use crate::Text;
 use rules::Number;
+use rules::Refusal;
 
 // Space, tab, LF or CR.
 fn separator(b: u8) -> bool
@@ -102,8 +103,8 @@ fn read_numbers(text: &[u8], at: usize, count: usize, out: &mut [u32]) -> Sectio
                 out[i] = n;
                 p = end;
             }
-            Number::Nothing => return Section::Refused(15),
-            Number::Bad => return Section::Refused(15),
+            Number::Nothing => return Section::Refused(Refusal::BadText),
+            Number::Bad => return Section::Refused(Refusal::BadText),
         }
         i += 1;
     }
@@ -121,11 +122,11 @@ fn read_section(text: &[u8], at: usize, limit: usize, out: &mut [u32]) -> Sectio
             if count <= limit {
                 read_numbers(text, end, count, out)
             } else {
-                Section::Refused(1)
+                Section::Refused(Refusal::OverLimit)
             }
         }
-        Number::Nothing => Section::Refused(15),
-        Number::Bad => Section::Refused(15),
+        Number::Nothing => Section::Refused(Refusal::BadText),
+        Number::Bad => Section::Refused(Refusal::BadText),
     }
 }
 
@@ -154,14 +155,14 @@ pub fn read_text(text: &[u8], counts: &mut [u32], numbers: &mut [u32]) -> Text
                 used += n;
                 at = end;
             }
-            Section::Refused(r) => return Text::Refused(r),
+            Section::Refused(why) => return Text::Refused(why),
         }
         k += 1;
     }
     match read_number(text, at) {
         Number::Nothing => Text::Read,
-        Number::Value(_, _) => Text::Refused(15),
-        Number::Bad => Text::Refused(15),
+        Number::Value(_, _) => Text::Refused(Refusal::BadText),
+        Number::Bad => Text::Refused(Refusal::BadText),
     }
 }
 

@@ -5,7 +5,10 @@ ghost use Prim.Native.Nat.{_+_, _≤_};
 ghost use lib.ListN.{length};
 ghost use Rattle.rules.specs.Drawing.{mostItems};
 ghost use Rattle.rules.specs.Program.{decimal, item, line, lines, column, operationsHeader, unplacedCount, valueLines, refusedLine};
+ghost use Rattle.rules.specs.Refusals.{number};
 ghost use Rattle.text.specs.Writing.{Put, operations};
+use rules::Refusal;
+use rules::number_of;
 
 fn put_byte(out: &mut [u8], at: usize, b: u8) -> usize
     requires { ⌜ at + 1 ≤ length (now out) ⌝ }
@@ -135,10 +138,11 @@ pub fn put_values(out: &mut [u8], at: usize, values: &[u32]) -> usize
     put_column(out, q, values)
 }
 
-pub fn put_refused(out: &mut [u8], at: usize, k: u32) -> usize
-    requires { ⌜ at + length (refusedLine k) ≤ length (now out) ⌝ }
-    ensures { λ r. ⌜ Put (refusedLine k) at (now (out .entry)) (now (out .exit)) r ⌝ }
+// `refused` and the refusal's number.
+pub fn put_refused(out: &mut [u8], at: usize, why: Refusal) -> usize
+    requires { ⌜ at + length (refusedLine (number why)) ≤ length (now out) ⌝ }
+    ensures { λ r. ⌜ Put (refusedLine (number why)) at (now (out .entry)) (now (out .exit)) r ⌝ }
 {
     let p = put_bytes(out, at, b"refused ");
-    put_item(out, p, k, 10)
+    put_item(out, p, number_of(why), 10)
 }

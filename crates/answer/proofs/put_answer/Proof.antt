@@ -4,6 +4,7 @@ use mathlib.Core.List.{List, _++_}
 use native.Mathlib.Omega.{arith}
 use lib.ListN.{length}
 use Rattle.rules.specs.Drawing.{Drawing, Boundary, drawing, boundary}
+use Rattle.rules.specs.Refusals.{number}
 use Rattle.rules.specs.Program.{answer, operationLines, refusedLine}
 use Rattle.rules.specs.Calls.{boundaryRefusal}
 use Rattle.answer.specs.Answering.{closing}
@@ -15,7 +16,6 @@ use Rattle.answer.proofs.put_answer.Statement.{statement}
 use Rattle.answer.proofs.put_answer.Tie as tie
 use Rattle.answer.proofs.put_answer.Reads as reads
 use Rattle.answer.proofs.put_answer.Lts as lts
-use Rattle.rules.proofs.number_of.Reads as number-of-reads
 use Rattle.answer.proofs.put_closing.Reads as put-closing-reads
 use Rattle.answer.proofs.put_layers.Reads as put-layers-reads
 use Rattle.hypergraph.proofs.check.check_boundary.Reads as check-boundary-reads
@@ -38,12 +38,12 @@ module _ (s : tie.Start) where
   whole = answer d b v
 
 -- the check refuses
-module _ (c : tie.After-number-of) where
+module _ (c : tie.After-put-refused-arg) where
   abbrev s : tie.Start
-  s = c .before .before .before .before .before .before .before .before .before .before .before .before .before .before .before .before
+  s = c .before .before .before .before .before .before .before .before .before .before .before .before .before .before .before
 
-  refused : whole s ≡ refusedLine (c .number-of .result)
-  refused = check-refused (d s) (b s) (v s) (c .before .before .before .before .before .check-boundary .result) (c .before .before .before .why .given .0 .0) (c .number-of .result) (c .before .before .before .before .before .check-boundary .ensures .refusal) (cc) (c .number-of .ensures)
+  refused : whole s ≡ refusedLine (number (c .before .before .why .given .0 .0))
+  refused = check-refused (d s) (b s) (v s) (c .before .before .before .before .check-boundary .result) (c .before .before .why .given .0 .0) (c .before .before .before .before .check-boundary .ensures .refusal) (cc)
 
 -- it passes: what is left to write, at first and behind the operations' lines
 module _ (c : tie.After-enum-told) where
@@ -68,9 +68,6 @@ check-boundary-requires c κs = search needs
 
 enum-known-why : tie.Need-enum-known-why
 enum-known-why c = search needs
-
-number-of-requires : tie.Need-number-of-requires
-number-of-requires c κs = search needs
 
 put-refused-requires : tie.Need-put-refused-requires
 put-refused-requires c κs = omega (arith, ap length (refused c), s c .pre .1)
@@ -102,7 +99,6 @@ put-answer-spec =
     (tie.spec
     check-boundary-requires
     enum-known-why
-    number-of-requires
     put-refused-requires
     enum-told
     put-layers-requires

@@ -4,6 +4,7 @@ use mathlib.Core.List.{List}
 use native.Mathlib.Omega.{arith}
 use lib.ListN.{length, take, length-take}
 use Rattle.rules.specs.Drawing.{Drawing, Boundary, drawing, boundary, mostItems}
+use Rattle.rules.specs.Refusals.{number}
 use Rattle.rules.specs.Program.{valueLines, refusedLine}
 use Rattle.answer.specs.Answering.{closing}
 use Rattle.answer.specs.Facts.{put-same, closing-refused, closing-values, values-few}
@@ -12,7 +13,6 @@ use Rattle.answer.proofs.put_closing.Statement.{statement}
 use Rattle.answer.proofs.put_closing.Tie as tie
 use Rattle.answer.proofs.put_closing.Reads as reads
 use Rattle.answer.proofs.put_closing.Lts as lts
-use Rattle.rules.proofs.number_of.Reads as number-of-reads
 use Rattle.eval.proofs.eval.Reads as eval-reads
 use Rattle.text.proofs.writer.put_refused.Reads as put-refused-reads
 use Rattle.text.proofs.writer.put_values.Reads as put-values-reads
@@ -25,12 +25,12 @@ module _ (s : tie.Start) where
   b = boundary (s .args .inputs .now) (s .args .outputs .now)
 
 -- `eval` refuses
-module _ (c : tie.After-number-of) where
+module _ (c : tie.After-put-refused-arg) where
   abbrev s : tie.Start
-  s = c .before .before .before .before .before .before .before .before .before .before .before .before .before .before .before .before .before .before .before .before
+  s = c .before .before .before .before .before .before .before .before .before .before .before .before .before .before .before .before .before .before .before
 
-  refused : closing (d s) (b s) (s .args .values .now) ≡ refusedLine (c .number-of .result)
-  refused = closing-refused (d s) (b s) (s .args .values .now) (s .pre .0) (s .pre .1 .0) (c .before .before .before .before .before .before .before .eval .ensures) refl refl (c .before .before .before .why .given .0 .0) (c .number-of .result) (cc) (c .number-of .ensures)
+  refused : closing (d s) (b s) (s .args .values .now) ≡ refusedLine (number (c .before .before .why .given .0 .0))
+  refused = closing-refused (d s) (b s) (s .args .values .now) (s .pre .0) (s .pre .1 .0) (c .before .before .before .before .before .before .eval .ensures) refl refl (c .before .before .why .given .0 .0) (cc)
 
 -- it does not
 module _ (c : tie.After-enum-told) where
@@ -57,9 +57,6 @@ eval-requires c κs = search needs
 
 enum-known-why : tie.Need-enum-known-why
 enum-known-why c = search needs
-
-number-of-requires : tie.Need-number-of-requires
-number-of-requires c κs = search needs
 
 put-refused-requires : tie.Need-put-refused-requires
 put-refused-requires c κs = omega (arith, ap length (refused c), s c .pre .1 .1)
@@ -96,7 +93,6 @@ put-closing-spec =
     slice-aggregate-eval-2
     eval-requires
     enum-known-why
-    number-of-requires
     put-refused-requires
     enum-told
     array-share-prefix-results

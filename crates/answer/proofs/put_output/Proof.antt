@@ -3,6 +3,8 @@ use mathlib.Core.Path.{_≡_, refl, ap}
 use mathlib.Core.List.{List}
 use native.Mathlib.Omega.{arith}
 use lib.ListN.{length}
+use Rattle.rules.specs.Refusals.{number}
+use Rattle.rules.specs.declared.Refusal.the-variants.{OverLimit}
 use Rattle.rules.specs.Program.{outputOf}
 use Rattle.rules.specs.Facts.Writing.{refused-length}
 use Rattle.rules.specs.Facts.Output.{output-over}
@@ -39,7 +41,7 @@ module _ (c : tie.After-enum-told) where
   written = read-answer (s .args .text .now) (c .before .before .before .before .before .before .before .if1 .left) read
 
 put-refused-requires : tie.Need-put-refused-requires
-put-refused-requires c κs = omega (arith, refused-length 1)
+put-refused-requires c κs = omega (arith, refused-length (number OverLimit))
 
 same-length : tie.Need-same-length
 same-length c = search needs
@@ -56,11 +58,11 @@ slice-aggregate-read-text-2 c = search needs
 read-text-requires : tie.Need-read-text-requires
 read-text-requires c κs = search needs
 
-enum-known-k : tie.Need-enum-known-k
-enum-known-k c = search needs
+enum-known-why : tie.Need-enum-known-why
+enum-known-why c = search needs
 
 put-refused-requires-2 : tie.Need-put-refused-requires-2
-put-refused-requires-2 c κs = omega (arith, refused-length (c .before .before .k .given .0 .0))
+put-refused-requires-2 c κs = omega (arith, refused-length (number (c .before .before .why .given .0 .0)))
 
 enum-told : tie.Need-enum-told
 enum-told c = search needs
@@ -78,7 +80,7 @@ same-length-2 : tie.Need-same-length-2
 same-length-2 c = search needs
 
 returns-2 : tie.Need-returns-2
-returns-2 c = put-same (read-refused (c .before .before .before .before .before .before .before .before .before .before .before .before .before .before .before .args .text .now) (c .before .before .before .before .before .before .before .before .before .before .before .before .if1 .left) (c .before .before .before .before .before .k .given .0 .0) (c .before .before .before .before .before .before .before .before .before .read-text .ensures) (cc)) (c .before .before .put-refused2 .ensures)
+returns-2 c = put-same (read-refused (c .before .before .before .before .before .before .before .before .before .before .before .before .before .before .before .args .text .now) (c .before .before .before .before .before .before .before .before .before .before .before .before .if1 .left) (c .before .before .before .before .before .why .given .0 .0) (c .before .before .before .before .before .before .before .before .before .read-text .ensures) (cc)) (c .before .before .put-refused2 .ensures)
 
 same-length-3 : tie.Need-same-length-3
 same-length-3 c = search needs
@@ -96,7 +98,7 @@ put-output-spec =
     slice-aggregate-read-text
     slice-aggregate-read-text-2
     read-text-requires
-    enum-known-k
+    enum-known-why
     put-refused-requires-2
     enum-told
     slice-aggregate-put-sections

@@ -18,14 +18,14 @@ use Rattle.rules.specs.Facts.Tests.{both, first-none, unless-none}
 
 -- by the text
 module _ (t : List ℕ) where
-  pub output-over : mostBytes < length t → outputOf t ≡ refusedLine 1
+  pub output-over : mostBytes < length t → outputOf t ≡ refusedLine (number OverLimit)
   unfolding outputOf
   output-over h = rw (lt-leb (length t) mostBytes h)
 
   module _ (h : length t ≤ mostBytes) where
-    pub output-broken : (ls : List (List ℕ)) (ms : List ℕ) (k : ℕ) → wholeText t ≡ broken ls ms k → outputOf t ≡ refusedLine k
+    pub output-broken : (ls : List (List ℕ)) (ms : List ℕ) (why : Refusal) → wholeText t ≡ broken ls ms why → outputOf t ≡ refusedLine (number why)
     unfolding outputOf
-    output-broken ls ms k e = rw (le-leb (length t) mostBytes h, e)
+    output-broken ls ms why e = rw (le-leb (length t) mostBytes h, e)
 
     pub output-whole : (ls : List (List ℕ)) → wholeText t ≡ whole ls → outputOf t ≡ answer (drawingIn ls) (boundaryIn ls) (valuesIn ls)
     unfolding outputOf

@@ -11,10 +11,11 @@ use Rattle.rules.specs.Drawing.{Drawing, Boundary, nodeCount, opCount}
 use Rattle.rules.specs.Graph.{order}
 use Rattle.rules.specs.Analysis.{opNext, orders, marks}
 use Rattle.rules.specs.Evaluation.{evaluated, unplacedOp, wrongOperation}
-use Rattle.rules.specs.Refusals.{firstOf, workspaceNeed}
+use Rattle.rules.specs.Refusals.{number, firstOf, workspaceNeed}
 use Rattle.rules.specs.Calls.{boundaryRefusal}
 use Rattle.rules.specs.Text.{Sections, whole, broken, wholeText, limits, mostBytes, mostCounted}
 use Rattle.rules.specs.Program.{mostWords, mostWritten, lines, operationsHeader, unplacedCount, operationLines, valuesOrRefused, operationsOrRefused, answer, drawingIn, boundaryIn, valuesIn, answerTo, refusedLine, outputOf}
+use Rattle.rules.specs.declared.Refusal.the-variants.{OverLimit}
 use Rattle.rules.specs.Facts.Member.{range-length}
 use Rattle.rules.specs.Facts.TextSections.{Fit, whole-fits}
 use Rattle.rules.specs.Facts.Writing.{lines-length, header-length, values-length, refused-length}
@@ -75,8 +76,8 @@ output-long t = go (leb (length t) mostBytes)
     sections (whole ls) e =
         let f = whole-sized (whole-fits t ls e) in
         omega (arith, answer-length (drawingIn ls) (boundaryIn ls) (valuesIn ls), f .ops, f .outputs)
-    sections (broken ls ms k) e = omega (arith, refused-length k)
+    sections (broken ls ms why) e = omega (arith, refused-length (number why))
 
-    go : (b : Bool) → length (cond b (answerTo (wholeText t)) (refusedLine 1)) ≤ mostWritten
+    go : (b : Bool) → length (cond b (answerTo (wholeText t)) (refusedLine (number OverLimit))) ≤ mostWritten
     go true = sections (wholeText t) refl
-    go false = omega (arith, refused-length 1)
+    go false = omega (arith, refused-length (number OverLimit))

@@ -11,6 +11,7 @@ use Rattle.rules.specs.Lists.{sum, concat}
 use Rattle.rules.specs.Text.{numberAt, Numbers, allRead, fault, ahead, onward, numbersAt, counted, sectionAt, Sections, whole, broken, push, atEnd, before, sectionsAt, limits, wholeText}
 use Rattle.rules.specs.declared.Number.{Number}
 use Rattle.rules.specs.declared.Number.the-variants.{Value, Nothing, Bad}
+use Rattle.rules.specs.declared.Refusal.the-variants.{OverLimit, BadText}
 
 -- a section, by its count
 module _ (limit : ℕ) (t : List ℕ) (at : ℕ) where
@@ -19,15 +20,15 @@ module _ (limit : ℕ) (t : List ℕ) (at : ℕ) where
     unfolding sectionAt
     section-read h = rw (q, le-leb n limit h)
 
-    pub section-over : limit < n → sectionAt limit t at ≡ fault [] 1
+    pub section-over : limit < n → sectionAt limit t at ≡ fault [] OverLimit
     unfolding sectionAt
     section-over h = rw (q, lt-leb n limit h)
 
-  pub section-nothing : numberAt t at ≡ Nothing → sectionAt limit t at ≡ fault [] 15
+  pub section-nothing : numberAt t at ≡ Nothing → sectionAt limit t at ≡ fault [] BadText
   unfolding sectionAt
   section-nothing q = rw q
 
-  pub section-bad : numberAt t at ≡ Bad → sectionAt limit t at ≡ fault [] 15
+  pub section-bad : numberAt t at ≡ Bad → sectionAt limit t at ≡ fault [] BadText
   unfolding sectionAt
   section-bad q = rw q
 
@@ -37,18 +38,18 @@ module _ (t : List ℕ) (at : ℕ) where
   unfolding sectionsAt
   sections-end q = rw q
 
-  pub sections-value : (n e : ℕ) → numberAt t at ≡ Value n e → sectionsAt [] t at ≡ broken [] [] 15
+  pub sections-value : (n e : ℕ) → numberAt t at ≡ Value n e → sectionsAt [] t at ≡ broken [] [] BadText
   unfolding sectionsAt
   sections-value n e q = rw q
 
-  pub sections-bad : numberAt t at ≡ Bad → sectionsAt [] t at ≡ broken [] [] 15
+  pub sections-bad : numberAt t at ≡ Bad → sectionsAt [] t at ≡ broken [] [] BadText
   unfolding sectionsAt
   sections-bad q = rw q
 
 -- how many numbers were read, where all were
 ahead-read : (m : ℕ) (g : Numbers) (ns : List ℕ) (e : ℕ) → ahead m g ≡ allRead ns e → (ms : List ℕ) × (g ≡ allRead ms e) × (ns ≡ m ∷ ms)
 ahead-read m (allRead ms end) ns e q = (ms, let z : end ≡ e = cc in rw z, cc)
-ahead-read m (fault ms k) ns e q = let z : _≡_ {A = ℕ} 0 1 = cc in absurd (omega arith)
+ahead-read m (fault ms why) ns e q = let z : _≡_ {A = ℕ} 0 1 = cc in absurd (omega arith)
 
 pub numbers-count : (k : ℕ) (t : List ℕ) (at : ℕ) (ns : List ℕ) (e : ℕ) → numbersAt k t at ≡ allRead ns e → length ns ≡ k
 unfolding numbersAt
@@ -64,7 +65,7 @@ pub section-count : (limit : ℕ) (t : List ℕ) (at : ℕ) (ns : List ℕ) (e :
 unfolding sectionAt
 section-count limit t at ns e q = go (numberAt t at) q
   where
-    in-limit : (m p : ℕ) (b : Bool) → leb m limit ≡ b → cond b (numbersAt m t p) (fault [] 1) ≡ allRead ns e → length ns ≤ limit
+    in-limit : (m p : ℕ) (b : Bool) → leb m limit ≡ b → cond b (numbersAt m t p) (fault [] OverLimit) ≡ allRead ns e → length ns ≤ limit
     in-limit m p true h r = omega (arith, numbers-count m t p ns e r, leb-true m limit h)
     in-limit m p false h r = let z : _≡_ {A = ℕ} 0 1 = cc in absurd (omega arith)
 
@@ -81,7 +82,7 @@ pub record Fit (limits : List ℕ) (ls : List (List ℕ)) : Type 0 where
 
 push-whole : (ns : List ℕ) (s : Sections) (ls : List (List ℕ)) → push ns s ≡ whole ls → (r : List (List ℕ)) × (s ≡ whole r) × (ls ≡ ns ∷ r)
 push-whole ns (whole r) ls e = (r, refl, cc)
-push-whole ns (broken r ms k) ls e = let z : _≡_ {A = ℕ} 0 1 = cc in absurd (omega arith)
+push-whole ns (broken r ms why) ls e = let z : _≡_ {A = ℕ} 0 1 = cc in absurd (omega arith)
 
 fit-none : Fit [] []
 fit-none = record { many = refl; each = λ k. omega arith; long = omega arith }
@@ -105,7 +106,7 @@ sections-fit (limit ∷ limits) t at ls e = go (sectionAt limit t at) (λ ns p q
   where
     go : (g : Numbers) → ((ns : List ℕ) (p : ℕ) → g ≡ allRead ns p → length ns ≤ limit) → ((p : ℕ) (r : List (List ℕ)) → sectionsAt limits t p ≡ whole r → Fit limits r) → before g (sectionsAt limits t) ≡ whole ls → Fit (limit ∷ limits) ls
     go (allRead ns p) h ih q = let (r, s, z) = push-whole ns (sectionsAt limits t p) ls q in rw z (fit-more limit limits ns r (h ns p refl) (ih p r s))
-    go (fault ns k) h ih q = let z : _≡_ {A = ℕ} 0 1 = cc in absurd (omega arith)
+    go (fault ns why) h ih q = let z : _≡_ {A = ℕ} 0 1 = cc in absurd (omega arith)
 
 pub whole-fits : (t : List ℕ) (ls : List (List ℕ)) → wholeText t ≡ whole ls → Fit limits ls
 whole-fits t ls e = sections-fit limits t 0 ls e

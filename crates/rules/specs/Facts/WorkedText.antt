@@ -10,6 +10,7 @@ use Rattle.rules.specs.Calls.{boundaryRefusal}
 use Rattle.rules.specs.Evaluation.{operation, placeOf, storeAll, runLayer, run, evaluated}
 use Rattle.rules.specs.Text.{blanks, word, allDigits, worth, numberAt, numbersAt, sectionAt, whole, broken, sectionsAt, wholeText}
 use Rattle.rules.specs.declared.Number.the-variants.{Value, Bad}
+use Rattle.rules.specs.declared.Refusal.the-variants.{OverLimit, BadText}
 use Rattle.rules.specs.Program.{spelled, decimal, lines, operationLines, column, answer, outputOf}
 
 pub record WorkedText : Type 0 where
@@ -18,28 +19,28 @@ pub record WorkedText : Type 0 where
       wholeText (bytes "6  0 0 0 0 0 0\n3  2 2 7\n3  2 2 2\n6  0 1 0 2 3 4\n3  1 1 1\n3  3 4 5\n3  0 1 2\n1  5\n3  100 90 130\n")
       ≡ whole ((0 ∷ 0 ∷ 0 ∷ 0 ∷ 0 ∷ 0 ∷ []) ∷ (2 ∷ 2 ∷ 7 ∷ []) ∷ (2 ∷ 2 ∷ 2 ∷ []) ∷ (0 ∷ 1 ∷ 0 ∷ 2 ∷ 3 ∷ 4 ∷ []) ∷ (1 ∷ 1 ∷ 1 ∷ []) ∷ (3 ∷ 4 ∷ 5 ∷ []) ∷ (0 ∷ 1 ∷ 2 ∷ []) ∷ (5 ∷ []) ∷ (100 ∷ 90 ∷ 130 ∷ []) ∷ [])
   -- a number ends at a separator or at the end
-  pub letter : wholeText (bytes "300x") ≡ broken [] [] 15
+  pub letter : wholeText (bytes "300x") ≡ broken [] [] BadText
   -- one to ten digits, at most 4294967295
   pub large : numberAt (bytes "4294967296 ") 0 ≡ Bad
   pub largest : numberAt (bytes " \t4294967295") 0 ≡ Value 4294967295 12
   pub ten : numberAt (bytes "0000000257") 0 ≡ Value 257 10
   pub eleven : numberAt (bytes "00000000001") 0 ≡ Bad
-  pub ten-count : wholeText (bytes "0000000257") ≡ broken [] [] 1
+  pub ten-count : wholeText (bytes "0000000257") ≡ broken [] [] OverLimit
   -- all four separators, which may also stand first; a vertical tab is none
   pub separators : numberAt (32 ∷ 9 ∷ 10 ∷ 13 ∷ 55 ∷ 13 ∷ []) 0 ≡ Value 7 5
   pub other : numberAt (11 ∷ 49 ∷ []) 0 ≡ Bad
   -- a count over its limit stands left of what is missing
-  pub cut : wholeText (bytes "1 7 257 ,,,") ≡ broken ((7 ∷ []) ∷ []) [] 1
+  pub cut : wholeText (bytes "1 7 257 ,,,") ≡ broken ((7 ∷ []) ∷ []) [] OverLimit
   -- 256 numbers and 1,024 values are counted, one more is not
-  pub most : wholeText (bytes "256 ,") ≡ broken [] [] 15
-  pub most-values : wholeText (bytes "0 0 0 1024 ,") ≡ broken ([] ∷ [] ∷ [] ∷ []) [] 15
-  pub over-values : wholeText (bytes "0 0 0 1025 ,") ≡ broken ([] ∷ [] ∷ [] ∷ []) [] 1
+  pub most : wholeText (bytes "256 ,") ≡ broken [] [] BadText
+  pub most-values : wholeText (bytes "0 0 0 1024 ,") ≡ broken ([] ∷ [] ∷ [] ∷ []) [] BadText
+  pub over-values : wholeText (bytes "0 0 0 1025 ,") ≡ broken ([] ∷ [] ∷ [] ∷ []) [] OverLimit
   -- numbers that are missing
-  pub few : wholeText (bytes "2 7 ") ≡ broken [] (7 ∷ []) 15
-  pub empty : wholeText [] ≡ broken [] [] 15
-  pub blank : wholeText (bytes " \r\n") ≡ broken [] [] 15
+  pub few : wholeText (bytes "2 7 ") ≡ broken [] (7 ∷ []) BadText
+  pub empty : wholeText [] ≡ broken [] [] BadText
+  pub blank : wholeText (bytes " \r\n") ≡ broken [] [] BadText
   -- only separators may follow
-  pub follows : wholeText (bytes "0 0 0 0 0 0 0 0 0 0") ≡ broken ([] ∷ [] ∷ [] ∷ [] ∷ [] ∷ [] ∷ [] ∷ [] ∷ [] ∷ []) [] 15
+  pub follows : wholeText (bytes "0 0 0 0 0 0 0 0 0 0") ≡ broken ([] ∷ [] ∷ [] ∷ [] ∷ [] ∷ [] ∷ [] ∷ [] ∷ [] ∷ []) [] BadText
   pub only-blanks : wholeText (bytes "0 0 0 0 0 0 0 0 0\n\t ") ≡ whole ([] ∷ [] ∷ [] ∷ [] ∷ [] ∷ [] ∷ [] ∷ [] ∷ [] ∷ [])
   -- What is written.
   pub smallest : decimal 0 ≡ bytes "0"

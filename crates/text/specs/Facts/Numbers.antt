@@ -8,6 +8,8 @@ use lib.ListN.{length, set}
 use lib.Seq.{sets}
 use Rattle.rules.specs.Text.{numberAt, Numbers, allRead, fault, ahead, numbersAt}
 use Rattle.rules.specs.declared.Number.the-variants.{Value, Nothing, Bad}
+use Rattle.rules.specs.declared.Refusal.{Refusal}
+use Rattle.rules.specs.declared.Refusal.the-variants.{BadText}
 use Rattle.text.specs.declared.Section.{Section}
 use Rattle.text.specs.declared.Section.the-variants.{Read as SectionRead, Refused as SectionRefused}
 use Rattle.text.specs.Reading.{kept, sectionAnswer, ReadNumbers}
@@ -15,7 +17,7 @@ use Rattle.text.specs.Reading.{kept, sectionAnswer, ReadNumbers}
 -- a section's answer where i numbers have been read
 abbrev pub answerFrom : ℕ → Numbers → Section
 answerFrom i (allRead ns end) = SectionRead (i + length ns) end
-answerFrom i (fault ns k) = SectionRefused k
+answerFrom i (fault ns why) = SectionRefused why
 
 -- what a read leaves, from i on
 pub record Left : Type 0 where
@@ -29,7 +31,7 @@ finish-ahead : (out : List ℕ) (i n : ℕ) (g : Numbers) → finish out i (ahea
 finish-ahead out i n (allRead ns end) =
     let q : i + suc (length ns) ≡ suc i + length ns = omega arith in
     rw (add-one, q)
-finish-ahead out i n (fault ns k) = rw add-one
+finish-ahead out i n (fault ns why) = rw add-one
 
 -- i of the numbers have been read, and the text goes on at p
 module _ (t : List ℕ) (count i p : ℕ) (out : List ℕ) where
@@ -41,11 +43,11 @@ module _ (t : List ℕ) (count i p : ℕ) (out : List ℕ) where
     unfolding numbersAt
     finish-more n e q = rw (one-left, q) (finish-ahead out i n (numbersAt (count - (i + 1)) t e))
 
-    pub finish-nothing : numberAt t p ≡ Nothing → finish out i (numbersAt (count - i) t p) ≡ record { answer = SectionRefused 15; out = out }
+    pub finish-nothing : numberAt t p ≡ Nothing → finish out i (numbersAt (count - i) t p) ≡ record { answer = SectionRefused BadText; out = out }
     unfolding numbersAt
     finish-nothing q = rw (one-left, q)
 
-    pub finish-bad : numberAt t p ≡ Bad → finish out i (numbersAt (count - i) t p) ≡ record { answer = SectionRefused 15; out = out }
+    pub finish-bad : numberAt t p ≡ Bad → finish out i (numbersAt (count - i) t p) ≡ record { answer = SectionRefused BadText; out = out }
     unfolding numbersAt
     finish-bad q = rw (one-left, q)
 
@@ -58,12 +60,12 @@ module _ (t : List ℕ) (count i p : ℕ) (out : List ℕ) where
 
 answer-zero : (g : Numbers) → answerFrom 0 g ≡ sectionAnswer g
 answer-zero (allRead ns end) = let z : 0 + length ns ≡ length ns = omega arith in rw z
-answer-zero (fault ns k) = refl
+answer-zero (fault ns why) = refl
 
 -- what is left at the end is what the contract says
 pub read-is : (g : Numbers) (out out' : List ℕ) (r : Section) → finish out 0 g ≡ record { answer = r; out = out' } → ReadNumbers g out out' r
 read-is g out out' r e = record { answer = sym (ap (λ (x : Left). x .answer) e) ∙ answer-zero g; stored = sym (ap (λ (x : Left). x .out) e) }
 
 -- a fault at the count
-pub refused-is : (g : Numbers) (out : List ℕ) (k : ℕ) → g ≡ fault [] k → ReadNumbers g out out (SectionRefused k)
-refused-is g out k q = record { answer = rw q; stored = rw q }
+pub refused-is : (g : Numbers) (out : List ℕ) (why : Refusal) → g ≡ fault [] why → ReadNumbers g out out (SectionRefused why)
+refused-is g out why q = record { answer = rw q; stored = rw q }

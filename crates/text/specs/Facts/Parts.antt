@@ -74,5 +74,5 @@ module _ (t cs cs' ns ns' : List ℕ) (hc : length cs ≡ 9) (hn : mostNumbers �
   held r e q = go (wholeText t) refl (sym q ∙ e .answer) (e .counted) (e .stored)
     where
       go : (s : Sections) → wholeText t ≡ s → TextRead ≡ textAnswer s → cs' ≡ sets cs 0 (lengths (finished s)) → ns' ≡ sets ns 0 (numbersOf s) → Held t cs' ns'
-      go (broken ls ms k) w b c n = let z : _≡_ {A = ℕ} 0 1 = cc in absurd (omega arith)
+      go (broken ls ms why) w b c n = let z : _≡_ {A = ℕ} 0 1 = cc in absurd (omega arith)
       go (whole ls) w b c n = held-whole ls w c n

@@ -9,6 +9,8 @@ use lib.Seq.{sets}
 use Rattle.rules.specs.Lists.{concat, sum}
 use Rattle.rules.specs.Text.{numberAt, Numbers, allRead, fault, sectionAt, Sections, whole, broken, push, before, sectionsAt, limits}
 use Rattle.rules.specs.declared.Number.the-variants.{Value, Nothing, Bad}
+use Rattle.rules.specs.declared.Refusal.{Refusal}
+use Rattle.rules.specs.declared.Refusal.the-variants.{BadText}
 use Rattle.rules.specs.Facts.Counts.{drop-more}
 use Rattle.rules.specs.Facts.TextSections.{section-count, sections-end, sections-value, sections-bad}
 use Rattle.text.specs.declared.Section.the-variants.{Read as SectionRead, Refused as SectionRefused}
@@ -20,11 +22,11 @@ use Rattle.text.specs.Facts.Sets.{sets-append}
 -- what an answer tells of what was read
 answer-read : (g : Numbers) (n e : ℕ) → SectionRead n e ≡ sectionAnswer g → (g ≡ allRead (kept g) e) × (n ≡ length (kept g))
 answer-read (allRead ns end) n e q = (let z : end ≡ e = cc in rw z, cc)
-answer-read (fault ns k) n e q = let z : _≡_ {A = ℕ} 0 1 = cc in absurd (omega arith)
+answer-read (fault ns why) n e q = let z : _≡_ {A = ℕ} 0 1 = cc in absurd (omega arith)
 
-answer-fault : (g : Numbers) (k : ℕ) → SectionRefused k ≡ sectionAnswer g → g ≡ fault (kept g) k
-answer-fault (allRead ns end) k q = let z : _≡_ {A = ℕ} 0 1 = cc in absurd (omega arith)
-answer-fault (fault ns j) k q = let z : j ≡ k = cc in rw z
+answer-fault : (g : Numbers) (why : Refusal) → SectionRefused why ≡ sectionAnswer g → g ≡ fault (kept g) why
+answer-fault (allRead ns end) why q = let z : _≡_ {A = ℕ} 0 1 = cc in absurd (omega arith)
+answer-fault (fault ns said) why q = let z : said ≡ why = cc in rw z
 
 pub section-within : (limit : ℕ) (t : List ℕ) (at n e : ℕ) → SectionRead n e ≡ sectionAnswer (sectionAt limit t at) → n ≤ limit
 section-within limit t at n e q =
@@ -42,7 +44,7 @@ ending cs ns k used s = record { answer = textAnswer s; counts = sets cs k (leng
 
 ending-push : (cs ns : List ℕ) (k used : ℕ) (g : List ℕ) (s : Sections) → ending cs ns k used (push g s) ≡ ending (set cs k (length g)) (sets ns used g) (k + 1) (used + length g) s
 ending-push cs ns k used g (whole ls) = rw (add-one, sets-append g (concat ls) ns used)
-ending-push cs ns k used g (broken ls ms r) = rw (add-one, append-assoc g (concat ls) ms, sets-append g (concat ls ++ ms) ns used)
+ending-push cs ns k used g (broken ls ms why) = rw (add-one, append-assoc g (concat ls) ms, sets-append g (concat ls ++ ms) ns used)
 
 -- k sections have been read, their numbers stand before place used, and the text goes on at `at`
 module _ (ls t cs ns : List ℕ) (k used at : ℕ) where
@@ -64,20 +66,20 @@ module _ (ls t cs ns : List ℕ) (k used at : ℕ) where
         let b : before g rest ≡ push (kept g) (rest e) = ap (λ (x : Numbers). before x rest) (p .0) in
         rw (this, b, w, p .1) (ending-push cs ns k used (kept g) (rest e))
 
-    pub text-fault : (r : ℕ) (ns' : List ℕ) → SectionRefused r ≡ sectionAnswer g → ns' ≡ sets ns used (kept g)
-        → ending cs ns k used (sectionsAt (drop k ls) t at) ≡ record { answer = TextRefused r; counts = cs; numbers = ns' }
-    text-fault r ns' q w =
-        let b : before g rest ≡ broken [] (kept g) r = ap (λ (x : Numbers). before x rest) (answer-fault g r q) in
+    pub text-fault : (why : Refusal) (ns' : List ℕ) → SectionRefused why ≡ sectionAnswer g → ns' ≡ sets ns used (kept g)
+        → ending cs ns k used (sectionsAt (drop k ls) t at) ≡ record { answer = TextRefused why; counts = cs; numbers = ns' }
+    text-fault why ns' q w =
+        let b : before g rest ≡ broken [] (kept g) why = ap (λ (x : Numbers). before x rest) (answer-fault g why q) in
         rw (this, b, w)
 
   module _ (h : drop k ls ≡ []) where
     pub text-end : numberAt t at ≡ Nothing → ending cs ns k used (sectionsAt (drop k ls) t at) ≡ record { answer = TextRead; counts = cs; numbers = ns }
     text-end q = rw (h, sections-end t at q)
 
-    pub text-value : (n e : ℕ) → numberAt t at ≡ Value n e → ending cs ns k used (sectionsAt (drop k ls) t at) ≡ record { answer = TextRefused 15; counts = cs; numbers = ns }
+    pub text-value : (n e : ℕ) → numberAt t at ≡ Value n e → ending cs ns k used (sectionsAt (drop k ls) t at) ≡ record { answer = TextRefused BadText; counts = cs; numbers = ns }
     text-value n e q = rw (h, sections-value t at n e q)
 
-    pub text-bad : numberAt t at ≡ Bad → ending cs ns k used (sectionsAt (drop k ls) t at) ≡ record { answer = TextRefused 15; counts = cs; numbers = ns }
+    pub text-bad : numberAt t at ≡ Bad → ending cs ns k used (sectionsAt (drop k ls) t at) ≡ record { answer = TextRefused BadText; counts = cs; numbers = ns }
     text-bad q = rw (h, sections-bad t at q)
 
 -- what is left at the end is what the contract says

@@ -117,8 +117,8 @@ slice-write-counts c = search needs
 add-used : tie.Need-add-used Inv-loop μ-loop
 add-used c = omega (arith, small (c .before), total (c .before))
 
-enum-known-r : tie.Need-enum-known-r Inv-loop μ-loop
-enum-known-r c = search needs
+enum-known-why : tie.Need-enum-known-why Inv-loop μ-loop
+enum-known-why c = search needs
 
 same-length : tie.Need-same-length Inv-loop μ-loop
 same-length c = search needs
@@ -129,7 +129,7 @@ same-length-2 c = long (c .before .before .before .before) ∙ c .before .before
 returns : tie.Need-returns Inv-loop μ-loop
 returns c =
     let b = c .before .before .before .before in
-    let r = c .before .r .given in
+    let r = c .before .why .given in
     text-is _ _ _ _ _ _
     (sym (c .before .before .before .before .before .before .before .before .before .loop .inv .4)
     ∙ text-fault limits (t b) (cs b) (ns b) (k b) (used b) (at b) (c .before .before .before .before .before .before .before .before .loop-test .taken) (r .0 .0) (ns' b) (sym (r .1) ∙ answers b) (wrote b))
@@ -217,7 +217,7 @@ read-text-spec =
     mul-counts
     slice-write-counts
     add-used
-    enum-known-r
+    enum-known-why
     same-length
     same-length-2
     returns
