@@ -1,5 +1,5 @@
 // The numbers of a line, and the lists of a case one behind the other.
-use text::lines::least;
+use lines::least;
 ghost use mathlib.Core.Path.{_≡_};
 ghost use Prim.Native.Nat.{_≤_};
 ghost use lib.ListN.{length};

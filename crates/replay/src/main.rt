@@ -16,7 +16,7 @@ mod call;
 mod lists;
 mod show;
 
-use text::lines::line_end;
+use lines::line_end;
 
 // Makes the call and prints what it gives and leaves, in so much of this memory as the case lends.
 fn run_in(

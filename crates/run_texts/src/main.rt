@@ -2,8 +2,8 @@
 //
 // Each begins with a line of its own: five digits, how many bytes it has; a space; five digits, how often the last of them is to stand; and
 // words. That line is written again, and then what the answer is. A line's end stands behind each text.
-use text::lines::least;
-use text::lines::line_end;
+use lines::least;
+use lines::line_end;
 ghost use Prim.Native.Nat.{_≤_, _<_};
 ghost use lib.ListN.{length};
 

@@ -1,5 +1,4 @@
 // Document 01's format: a text read from lent bytes into lent lists, and an answer written into lent bytes.
-pub mod lines;
 pub mod reader;
 pub mod writer;
 

@@ -6,7 +6,7 @@ use Rattle.run_texts.proofs.copy.Statement.{statement}
 use Rattle.run_texts.proofs.copy.Tie as tie
 use Rattle.run_texts.proofs.copy.Reads as reads
 use Rattle.run_texts.proofs.copy.Lts as lts
-use Rattle.text.proofs.lines.least.Reads as least-reads
+use Rattle.lines.proofs.least.Reads as least-reads
 
 abbrev Inv-loop : tie.InvT-loop
 Inv-loop bytes text₀ n i₀ text i = (length text ≡ length text₀) × (i ≤ n)

@@ -4,7 +4,7 @@ use Rattle.run_texts.proofs.number_at.Statement.{statement}
 use Rattle.run_texts.proofs.number_at.Tie as tie
 use Rattle.run_texts.proofs.number_at.Reads as reads
 use Rattle.run_texts.proofs.number_at.Lts as lts
-use Rattle.text.proofs.lines.least.Reads as least-reads
+use Rattle.lines.proofs.least.Reads as least-reads
 
 abbrev Inv-loop : tie.InvT-loop
 Inv-loop input at n₀ i₀ n i = (n ≤ 65537) × (i ≤ 5)

@@ -6,7 +6,7 @@ use Rattle.run_texts.proofs.repeat.Statement.{statement}
 use Rattle.run_texts.proofs.repeat.Tie as tie
 use Rattle.run_texts.proofs.repeat.Reads as reads
 use Rattle.run_texts.proofs.repeat.Lts as lts
-use Rattle.text.proofs.lines.least.Reads as least-reads
+use Rattle.lines.proofs.least.Reads as least-reads
 
 abbrev Inv-loop : tie.InvT-loop
 Inv-loop text₀ n byte times end i₀ text i = (length text ≡ length text₀) × (i ≤ end)

@@ -7,7 +7,7 @@ use Rattle.replay.proofs.lists.lay_out.Tie as tie
 use Rattle.replay.proofs.lists.lay_out.Reads as reads
 use Rattle.replay.proofs.lists.lay_out.Lts as lts
 use Rattle.replay.proofs.lists.at.Reads as at-reads
-use Rattle.text.proofs.lines.least.Reads as least-reads
+use Rattle.lines.proofs.least.Reads as least-reads
 use Rattle.replay.proofs.lists.put_list.Reads as put-list-reads
 use Rattle.replay.proofs.lists.written.Reads as written-reads
 

@@ -8,7 +8,7 @@ use Rattle.replay.proofs.lists.put_list.Reads as reads
 use Rattle.replay.proofs.lists.put_list.Lts as lts
 use Rattle.replay.proofs.lists.at.Reads as at-reads
 use Rattle.replay.proofs.lists.count_of.Reads as count-of-reads
-use Rattle.text.proofs.lines.least.Reads as least-reads
+use Rattle.lines.proofs.least.Reads as least-reads
 use Rattle.replay.proofs.lists.written.Reads as written-reads
 
 abbrev Inv-loop : tie.InvT-loop
