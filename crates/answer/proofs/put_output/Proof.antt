@@ -1,11 +1,9 @@
-use Prim.Native.Nat.{ℕ}
+use Prim.Native.Nat.{ℕ, _+_, _≤_}
 use mathlib.Core.Path.{_≡_, refl, ap}
 use mathlib.Core.List.{List}
 use native.Mathlib.Omega.{arith}
 use lib.ListN.{length}
-use Rattle.rules.specs.Refusals.{number}
-use Rattle.rules.specs.declared.Refusal.the-variants.{OverLimit}
-use Rattle.rules.specs.Program.{outputOf}
+use Rattle.rules.specs.Program.{outputOf, refusedLine, mostWritten}
 use Rattle.rules.specs.Facts.Writing.{refused-length}
 use Rattle.rules.specs.Facts.Output.{output-over}
 use Rattle.rules.specs.Facts.OutputLong.{output-long}
@@ -40,8 +38,12 @@ module _ (c : tie.After-enum-told) where
   written : outputOf (s .args .text .now) ≡ answerIn (sectionsOf counts numbers)
   written = read-answer (s .args .text .now) (c .before .before .before .before .before .before .before .if1 .left) read
 
+-- the line of any refusal fits
+refused-fits : (k : ℕ) {room : ℕ} → mostWritten ≤ room → 0 + length (refusedLine k) ≤ room
+refused-fits k h = omega (arith, refused-length k)
+
 put-refused-requires : tie.Need-put-refused-requires
-put-refused-requires c κs = omega (arith, refused-length (number OverLimit))
+put-refused-requires c κs = refused-fits _ (c .before .before .before .before .pre)
 
 same-length : tie.Need-same-length
 same-length c = search needs
@@ -62,7 +64,7 @@ enum-known-why : tie.Need-enum-known-why
 enum-known-why c = search needs
 
 put-refused-requires-2 : tie.Need-put-refused-requires-2
-put-refused-requires-2 c κs = omega (arith, refused-length (number (c .before .before .why .given .0 .0)))
+put-refused-requires-2 c κs = refused-fits _ (c .before .before .before .before .before .before .before .before .before .before .before .before .pre)
 
 enum-told : tie.Need-enum-told
 enum-told c = search needs
