@@ -1,3 +1,4 @@
 pub mod Promise
+pub mod Determined
 pub mod Answering
 pub mod Facts

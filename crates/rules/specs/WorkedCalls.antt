@@ -29,7 +29,7 @@ pub record NoByRoad (c d : Drawing) (f : Maps) : Type 0 where
   pub road : Road d (nodesOf f) (opsOf f)
   pub says : SaysConvex c d f No
 
--- the list was written before what stood there, which there was room for
+-- the list stands at the front of an output, and behind it what stood there before
 abbrev pub Holds : (list out out' : List ℕ) → Type 0
 Holds list out out' = out' ≡ list ++ drop (length list) out
 

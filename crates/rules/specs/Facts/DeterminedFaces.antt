@@ -19,7 +19,7 @@ Fixes {A} P Q R = (a b : A) → P a → Q b → (a ≡ b) × R
 shown : {A : Type 0} (shows : A → ℕ) {a b : A} {s t : ℕ} → a ≡ b → s ≡ shows a → t ≡ shows b → s ≡ t
 shown shows e p q = p ∙ ap shows e ∙ sym q
 
--- a call that lends nothing on
+-- a call that is lent nothing to write into
 alone : {A : Type 0} {P Q : A → Type 0} → ((a b : A) → P a → Q b → a ≡ b) → Fixes P Q Unit
 alone same a b p q = (same a b p q, tt)
 
