@@ -5,6 +5,7 @@ use mathlib.Core.List.{List}
 use mathlib.Core.Path.{_≡_, sym, ap, _∙_}
 use Rattle.rules.specs.declared.Done.{Done}
 use Rattle.rules.specs.declared.Verdict.{Verdict}
+use Rattle.rules.specs.declared.Size.{Size}
 use Rattle.rules.specs.Drawing.{Drawing, Maps, Boundary}
 use Rattle.rules.specs.Refusals.{refusalOf, verdictRefusal, sizeRefusal}
 use Rattle.rules.specs.Promises.{CheckDrawing, CheckMaps, CheckBoundary, WritesRows, RowsSize, IsAcyclic, Layer, LayeredOperations, Validate, IsMonomorphism, IsConvexSubgraph, Eval}
@@ -32,6 +33,11 @@ told {word = word} fix f g =
     let e = fix (f .answer) (g .answer) (f .promise) (g .promise) in
     (shown verdictRefusal (e .0) (f .number) (g .number), shown (λ a. verdictWord a word) (e .0) (f .told) (g .told), e .1)
 
+sized : {P Q : Size → Type 0} {word w₁ w₂ r q : ℕ} → ((a b : Size) → P a → Q b → a ≡ b) → SizeFace P word w₁ r → SizeFace Q word w₂ q → (r ≡ q) × (w₁ ≡ w₂)
+sized {word = word} same f g =
+    let e = same (f .answer) (g .answer) (f .promise) (g .promise) in
+    (shown sizeRefusal e (f .number) (g .number), shown (λ a. sizeWord a word) e (f .told) (g .told))
+
 -- the checks and validation
 pub check-drawing-face : {d : Drawing} {r q : ℕ} → DoneFace (CheckDrawing d) r → DoneFace (CheckDrawing d) q → r ≡ q
 check-drawing-face f g = (done (alone (λ a b. check-drawing-determined)) f g) .0
@@ -53,8 +59,7 @@ writes-rows-face = done (λ a b. writes-rows-determined)
 
 pub rows-size-face : {d : Drawing} {rows : ℕ → List ℕ} {k word w₁ w₂ r q : ℕ} → SizeFace (RowsSize d rows k) word w₁ r → SizeFace (RowsSize d rows k) word w₂ q
     → (r ≡ q) × (w₁ ≡ w₂)
-rows-size-face {word = word} f g =
-    let e = rows-size-determined (f .promise) (g .promise) in (shown sizeRefusal e (f .number) (g .number), shown (λ a. sizeWord a word) e (f .told) (g .told))
+rows-size-face = sized (λ a b. rows-size-determined)
 
 -- the walks
 pub is-acyclic-face : {d : Drawing} {ws ws₁ ws₂ : List ℕ} {word w₁ w₂ r q : ℕ} → VerdictFace (IsAcyclic d ws ws₁) word w₁ r → VerdictFace (IsAcyclic d ws ws₂) word w₂ q
@@ -70,7 +75,8 @@ pub layered-operations-face : {d : Drawing} {es es₁ es₂ offs offs₁ offs₂
     → (r ≡ q) × ((es₁ ≡ es₂) × (offs₁ ≡ offs₂) × (ms₁ ≡ ms₂) × (ws₁ ≡ ws₂))
 layered-operations-face = done (λ a b. layered-operations-determined)
 
--- the layer lookup: start and length do not follow from the part that the call hands back, so the face says them of itself
+-- the offset test and the layer lookup, which never refuse. The lookup's start does not follow from the part that the call hands back: the face
+-- itself says it.
 pub offsets-sound-face : {ops offsets : List ℕ} {w₁ w₂ r q : ℕ} → SoundFace ops offsets w₁ r → SoundFace ops offsets w₂ q → (r ≡ q) × (w₁ ≡ w₂)
 offsets-sound-face f g = (f .number ∙ sym (g .number), shown (λ a. cond a 1 0) (offsets-sound-determined (f .promise) (g .promise)) (f .told) (g .told))
 
