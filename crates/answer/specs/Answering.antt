@@ -6,7 +6,7 @@ use Rattle.rules.specs.Refusals.{first_of, workspace_need}
 use Rattle.rules.specs.Evaluation.{evaluated, unplaced_op, wrong_operation}
 use Rattle.rules.specs.Text.{most_counted, limits}
 use Rattle.rules.specs.Program.{values_or_refused, drawing_in, boundary_in, values_in, answer, most_words}
-use Rattle.rules.specs.Facts.TextSections.{Fit}
+use Rattle.rules.proofs.Facts.TextSections.{Fit}
 use Rattle.text.specs.Reading.{sections_of, most_numbers}
 
 -- The lists of a text are small enough for the rooms that the program has.

@@ -14,11 +14,11 @@ use Rattle.rules.specs.Calls.{boundary_refusal, layer_refusal}
 use Rattle.rules.specs.Promises.{Layer, Eval}
 use Rattle.rules.specs.Text.{limits, whole_text, most_counted}
 use Rattle.rules.specs.Program.{answer, operation_lines, value_lines, refused_line, output_of, most_words, most_written}
-use Rattle.rules.specs.Facts.Member.{range_length}
-use Rattle.rules.specs.Facts.TextSections.{Fit}
-use Rattle.rules.specs.Facts.Output.{answer_refused, answer_taken, values_refused, layer_taken, eval_refused}
-use Rattle.rules.specs.Facts.OutputLong.{output_long, whole_sized, orders-length, evaluated-length}
-use Rattle.rules.specs.Facts.Refusing.{fine_none, faulty_number}
+use Rattle.rules.proofs.Facts.Member.{range_length}
+use Rattle.rules.proofs.Facts.TextSections.{Fit}
+use Rattle.rules.proofs.Facts.Output.{answer_refused, answer_taken, values_refused, layer_taken, eval_refused}
+use Rattle.rules.proofs.Facts.OutputLong.{output_long, whole_sized, orders-length, evaluated-length}
+use Rattle.rules.proofs.Facts.Refusing.{fine_none, faulty_number}
 use Rattle.rules.specs.declared.Refusal.{Refusal}
 use Rattle.rules.specs.declared.Done.{Done}
 use Rattle.rules.specs.declared.Done.TheVariants.{Fine, Faulty}

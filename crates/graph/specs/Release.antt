@@ -5,10 +5,10 @@ use Rattle.std.proofs.lemmas.List.{take-set-le}
 use Rattle.std.proofs.lemmas.Bool.{eqb-false}
 use Rattle.rules.specs.Inner.Walk.{Laid, Standing, Releasable, Released, degrees_of, queue_of}
 use Rattle.rules.specs.Inner.Words.{bit, positives}
-use Rattle.rules.specs.Facts.Kahn.{low, some_left}
-use Rattle.rules.specs.Facts.Segments.{seg-length, seg-set_low, seg-set_high}
-use Rattle.rules.specs.Facts.Standing.{stayed, joined_up}
-use Rattle.rules.specs.Facts.Stores.{positives-set, some_pos}
+use Rattle.rules.proofs.Facts.Kahn.{low, some_left}
+use Rattle.rules.proofs.Facts.Segments.{seg-length, seg-set_low, seg-set_high}
+use Rattle.rules.proofs.Facts.Standing.{stayed, joined_up}
+use Rattle.rules.proofs.Facts.Stores.{positives-set, some_pos}
 
 -- a new degree and depth of s, and s behind the queue
 abbrev pub stored : (k b tail s left depth : ℕ) → List ℕ → List ℕ

@@ -15,4 +15,3 @@ pub mod Faces
 pub mod Worked
 pub mod WorkedCalls
 pub mod Inner
-pub mod Facts

@@ -8,7 +8,7 @@ use Rattle.rules.specs.Refusals.{number}
 use Rattle.rules.specs.Program.{answer, operation_lines, refused_line}
 use Rattle.rules.specs.Calls.{boundary_refusal}
 use Rattle.answer.specs.Answering.{closing}
-use Rattle.rules.specs.Facts.Refusing.{fine_none}
+use Rattle.rules.proofs.Facts.Refusing.{fine_none}
 use Rattle.text.specs.Facts.Puts.{Rest, rest_room, rest_more, rest_last}
 use Rattle.answer.specs.Facts.{put_same, check_refused, answer_start, layer_free}
 use borrow.Author.Rules.{rules}

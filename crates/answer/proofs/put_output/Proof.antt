@@ -4,9 +4,9 @@ use mathlib.Core.List.{List}
 use native.Mathlib.Omega.{arith}
 use lib.ListN.{length}
 use Rattle.rules.specs.Program.{output_of, refused_line, most_written}
-use Rattle.rules.specs.Facts.Writing.{refused_length}
-use Rattle.rules.specs.Facts.Output.{output_over}
-use Rattle.rules.specs.Facts.OutputLong.{output_long}
+use Rattle.rules.proofs.Facts.Writing.{refused_length}
+use Rattle.rules.proofs.Facts.Output.{output_over}
+use Rattle.rules.proofs.Facts.OutputLong.{output_long}
 use Rattle.text.specs.Facts.Parts.{Held}
 use Rattle.text.specs.Facts.Answers.{read_refused, read_answer}
 use Rattle.answer.specs.Answering.{answer_in}

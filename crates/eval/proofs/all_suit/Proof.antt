@@ -1,4 +1,4 @@
-use Rattle.rules.specs.Facts.EvalCall.{all-range, all_fails}
+use Rattle.rules.proofs.Facts.EvalCall.{all-range, all_fails}
 use Rattle.rules.specs.Inner.Evaluating.{suits_by}
 use borrow.Author.Tests.{not-true, not-false}
 use borrow.Author.Count.{below_more}

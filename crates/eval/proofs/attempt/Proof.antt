@@ -1,6 +1,6 @@
 use Rattle.rules.specs.Refusals.{number}
-use Rattle.rules.specs.Facts.EvalCall.{late_here, late_none, layered_here, attempt_refused, attempt_run}
-use Rattle.rules.specs.Facts.Refusing.{fine_none, faulty_number}
+use Rattle.rules.proofs.Facts.EvalCall.{late_here, late_none, layered_here, attempt_refused, attempt_run}
+use Rattle.rules.proofs.Facts.Refusing.{fine_none, faulty_number}
 use Rattle.rules.specs.Inner.Evaluating.{late_by, late_refusal}
 use Rattle.rules.specs.Inner.Layering.{Layering}
 use Rattle.rules.specs.declared.Done.TheVariants.{Fine}

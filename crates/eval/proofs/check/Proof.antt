@@ -1,5 +1,5 @@
-use Rattle.rules.specs.Facts.EvalCall.{check_limits, checked_drawing, check_over, check_faulty, check_rooms}
-use Rattle.rules.specs.Facts.Refusing.{fine_none, faulty_number}
+use Rattle.rules.proofs.Facts.EvalCall.{check_limits, checked_drawing, check_over, check_faulty, check_rooms}
+use Rattle.rules.proofs.Facts.Refusing.{fine_none, faulty_number}
 use Rattle.rules.specs.Inner.Checks.{boundary_lists_refusal}
 use Rattle.rules.specs.Inner.Evaluating.{early_refusal}
 use Rattle.rules.specs.Refusals.{within, boundary_within, values_within, unless}

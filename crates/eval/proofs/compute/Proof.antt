@@ -1,5 +1,5 @@
-use Rattle.rules.specs.Facts.EvalCall.{computed}
-use Rattle.rules.specs.Facts.Segments.{seg-length}
+use Rattle.rules.proofs.Facts.EvalCall.{computed}
+use Rattle.rules.proofs.Facts.Segments.{seg-length}
 use Rattle.rules.specs.Drawing.{Drawing, Boundary, drawing, boundary, node_count, op_count}
 use native.Mathlib.Omega.{arith}
 use mathlib.Core.Path.{◌∙◌}

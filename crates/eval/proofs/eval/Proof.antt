@@ -1,5 +1,5 @@
-use Rattle.rules.specs.Facts.EvalCall.{passed_drawing, passed_boundary, passed_output, passed_words, eval_refused, eval_done}
-use Rattle.rules.specs.Facts.Refusing.{fine_none, faulty_number}
+use Rattle.rules.proofs.Facts.EvalCall.{passed_drawing, passed_boundary, passed_output, passed_words, eval_refused, eval_done}
+use Rattle.rules.proofs.Facts.Refusing.{fine_none, faulty_number}
 use Rattle.rules.specs.Inner.Evaluating.{early_refusal}
 use Rattle.rules.specs.Refusals.{workspace_need}
 use lib.Seq.{length-take-le}

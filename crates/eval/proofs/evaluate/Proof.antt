@@ -1,4 +1,4 @@
-use Rattle.rules.specs.Facts.EvalCall.{evaluated-clear}
+use Rattle.rules.proofs.Facts.EvalCall.{evaluated-clear}
 use Rattle.rules.specs.Drawing.{Drawing, Boundary, drawing, boundary}
 use borrow.Author.Rules.{rules}
 use Rattle.eval.proofs.evaluate.Statement.{statement}

@@ -1,4 +1,4 @@
-use Rattle.rules.specs.Facts.EvalCall.{fault_unplaced, fault_tested}
+use Rattle.rules.proofs.Facts.EvalCall.{fault_unplaced, fault_tested}
 use mathlib.Core.Path.{sym, ◌∙◌}
 use mathlib.Core.Bool.{true, false}
 use borrow.Author.Rules.{rules}

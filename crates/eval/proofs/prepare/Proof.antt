@@ -1,4 +1,4 @@
-use Rattle.rules.specs.Facts.EvalCall.{prepared_at}
+use Rattle.rules.proofs.Facts.EvalCall.{prepared_at}
 use Rattle.rules.specs.Drawing.{Drawing, drawing, node_count, op_count}
 use native.Mathlib.Omega.{arith}
 use Prim.Native.Nat.{◌+◌, ◌-◌, ◌*◌}

@@ -7,9 +7,9 @@ use lib.ListN.{length}
 use lib.Dec.{ltb}
 use borrow.Author.Tests.{ltb-true}
 use Rattle.rules.specs.Analysis.{sound}
-use Rattle.rules.specs.Facts.Tests.{both}
-use Rattle.rules.specs.Facts.Lookup.{Sound, sound_facts, part-starts, part-ends}
-use Rattle.rules.specs.Facts.LookupFace.{face_there, face_none}
+use Rattle.rules.proofs.Facts.Tests.{both}
+use Rattle.rules.proofs.Facts.Lookup.{Sound, sound_facts, part-starts, part-ends}
+use Rattle.rules.proofs.Facts.LookupFace.{face_there, face_none}
 use borrow.Author.Rules.{rules}
 use Rattle.exports.proofs.tiwelzam_layer_at.Statement.{statement}
 use Rattle.exports.proofs.tiwelzam_layer_at.Tie as tie

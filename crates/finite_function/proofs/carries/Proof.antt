@@ -1,7 +1,7 @@
 use mathlib.Core.List.{map}
 use mathlib.Core.Path.{◌∙◌}
 use Rattle.rules.specs.Lists.{at}
-use Rattle.rules.specs.Facts.SameLists.{same_list_sym}
+use Rattle.rules.proofs.Facts.SameLists.{same_list_sym}
 use borrow.Author.Rules.{rules}
 use Rattle.finite_function.proofs.carries.Statement.{statement}
 use Rattle.finite_function.proofs.carries.Tie as tie

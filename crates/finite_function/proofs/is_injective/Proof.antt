@@ -1,7 +1,7 @@
 use mathlib.Core.List.{List}
 use Prim.Native.Nat.{ℕ}
 use native.Mathlib.Omega.{arith}
-use Rattle.rules.specs.Facts.Injective.{cleared_length, cleared_at, injective_decided}
+use Rattle.rules.proofs.Facts.Injective.{cleared_length, cleared_at, injective_decided}
 use borrow.Author.Rules.{rules}
 use Rattle.finite_function.proofs.is_injective.Statement.{statement}
 use Rattle.finite_function.proofs.is_injective.Tie as tie

@@ -1,4 +1,4 @@
-use Rattle.rules.specs.Facts.Evaluating.{has_here, has_more, has_end}
+use Rattle.rules.proofs.Facts.Evaluating.{has_here, has_more, has_end}
 use Rattle.rules.specs.Lists.{has}
 use lib.ListN.{length, drop}
 use native.Mathlib.Omega.{arith}

@@ -1,5 +1,5 @@
-use Rattle.rules.specs.Facts.Evaluating.{store_more, store_end, store_out}
-use Rattle.rules.specs.Facts.Member.{get_or-∈}
+use Rattle.rules.proofs.Facts.Evaluating.{store_more, store_end, store_out}
+use Rattle.rules.proofs.Facts.Member.{get_or-∈}
 use Rattle.rules.specs.Evaluation.{store_all}
 use borrow.Author.Tests.{ltb-true, ltb-false}
 use lib.Dec.{ltb}

@@ -1,5 +1,5 @@
-use Rattle.rules.specs.Facts.Evaluating.{Scattering, scattering_begin, scattering_next, scattering_end}
-use Rattle.rules.specs.Facts.Member.{get_or-∈}
+use Rattle.rules.proofs.Facts.Evaluating.{Scattering, scattering_begin, scattering_next, scattering_end}
+use Rattle.rules.proofs.Facts.Member.{get_or-∈}
 use lib.ListN.{length, get_or}
 use native.Mathlib.Omega.{arith}
 use Prim.Native.Nat.{ℕ, ◌<◌, ◌-◌}

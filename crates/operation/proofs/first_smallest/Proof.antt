@@ -2,7 +2,7 @@
 use Rattle.std.proofs.Common.{◌≡◌, ℕ, ◌+◌, ◌-◌, ◌≤◌, List, map, length, sym, ◌∙◌, ⊎_elim, arith, rules}
 use lib.ListN.{length-map}
 use Rattle.rules.specs.Lists.{at}
-use Rattle.rules.specs.Facts.Operating.{Firsts, firsts_begin, firsts_found, firsts_kept, firsts_end}
+use Rattle.rules.proofs.Facts.Operating.{Firsts, firsts_begin, firsts_found, firsts_kept, firsts_end}
 use Rattle.operation.proofs.first_smallest.Statement.{statement}
 use Rattle.operation.proofs.first_smallest.Tie as tie
 

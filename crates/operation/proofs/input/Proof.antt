@@ -1,8 +1,8 @@
 -- `input` meets its contract: the place is one of the memory's, and what stands there is the input.
 use Rattle.std.proofs.Common.{ℕ, ◌<◌, length, get_or, sym, arith, rules}
 use Rattle.rules.specs.Lists.{at}
-use Rattle.rules.specs.Facts.Evaluating.{map_at}
-use Rattle.rules.specs.Facts.Member.{get_or-∈}
+use Rattle.rules.proofs.Facts.Evaluating.{map_at}
+use Rattle.rules.proofs.Facts.Member.{get_or-∈}
 use Rattle.operation.proofs.input.Statement.{statement}
 use Rattle.operation.proofs.input.Tie as tie
 

@@ -3,7 +3,7 @@ use Rattle.std.proofs.Common.{◌≡◌, ℕ, ◌-◌, ◌≤◌, List, ◌∷�
 use lib.ListN.{length-map}
 use Rattle.rules.specs.Lists.{at}
 use Rattle.rules.specs.Evaluation.{most}
-use Rattle.rules.specs.Facts.Operating.{most_next, from_first}
+use Rattle.rules.proofs.Facts.Operating.{most_next, from_first}
 use Rattle.operation.proofs.largest.Statement.{statement}
 use Rattle.operation.proofs.largest.Tie as tie
 

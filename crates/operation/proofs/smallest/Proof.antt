@@ -3,7 +3,7 @@ use Rattle.std.proofs.Common.{◌≡◌, ℕ, ◌-◌, ◌≤◌, List, ◌∷�
 use lib.ListN.{length-map}
 use Rattle.rules.specs.Lists.{at}
 use Rattle.rules.specs.Evaluation.{least}
-use Rattle.rules.specs.Facts.Operating.{least_next, from_first}
+use Rattle.rules.proofs.Facts.Operating.{least_next, from_first}
 use Rattle.operation.proofs.smallest.Statement.{statement}
 use Rattle.operation.proofs.smallest.Tie as tie
 

@@ -1,4 +1,4 @@
-use Rattle.rules.specs.Facts.Operating.{operation_shift, operation_constant, unknown_low, unknown_middle, unknown_high, no_single}
+use Rattle.rules.proofs.Facts.Operating.{operation_shift, operation_constant, unknown_low, unknown_middle, unknown_high, no_single}
 use Rattle.rules.specs.Evaluation.{operation}
 use Rattle.operation.proofs.suits.Statement.{statement}
 use Rattle.operation.proofs.suits.Tie as tie

@@ -2,7 +2,7 @@
 use Rattle.std.proofs.Common.{◌≡◌, ℕ, ◌/◌, ◌≤◌, Bool, true, false, cond, eqb, List, map, length, refl, ap, ◌∙◌, arith, rules}
 use Rattle.rules.specs.Lists.{at}
 use Rattle.rules.specs.Evaluation.{operation}
-use Rattle.rules.specs.Facts.Operating.{operation_shift, operation_constant, unknown_low, unknown_middle, unknown_high, fewest, enough_inputs, no_single, shift_small}
+use Rattle.rules.proofs.Facts.Operating.{operation_shift, operation_constant, unknown_low, unknown_middle, unknown_high, fewest, enough_inputs, no_single, shift_small}
 use Rattle.operation.proofs.value.Statement.{statement}
 use Rattle.operation.proofs.value.Tie as tie
 

@@ -1,4 +1,4 @@
-use Rattle.rules.specs.Facts.Running.{read_none, read_next, read_runs, operation_low}
+use Rattle.rules.proofs.Facts.Running.{read_none, read_next, read_runs, operation_low}
 use Rattle.rules.specs.Inner.Running.{Runs, ReadUpTo, operation_at}
 use Rattle.rules.specs.Drawing.{Drawing, drawing, op_count}
 use native.Mathlib.Omega.{arith}

@@ -1,4 +1,4 @@
-use Rattle.rules.specs.Facts.Running.{read_runs, read_ready, read_stored}
+use Rattle.rules.proofs.Facts.Running.{read_runs, read_ready, read_stored}
 use Rattle.rules.specs.Drawing.{Drawing, drawing}
 use borrow.Author.Rules.{rules}
 use Rattle.pass.proofs.run_layer.Statement.{statement}

@@ -1,4 +1,4 @@
-use Rattle.rules.specs.Facts.Running.{RanUpTo, ran_begin, ran_runs, ran_next, ran_end, offsets_rise}
+use Rattle.rules.proofs.Facts.Running.{RanUpTo, ran_begin, ran_runs, ran_next, ran_end, offsets_rise}
 use Rattle.rules.specs.Inner.Running.{Runs}
 use Rattle.rules.specs.Drawing.{Drawing, drawing, op_count}
 use lib.ListN.{length, get_or}

@@ -1,4 +1,4 @@
-use Rattle.rules.specs.Facts.Running.{Storing, storing_begin, storing_front, storing_next, storing_end, runs_kept, operation_low}
+use Rattle.rules.proofs.Facts.Running.{Storing, storing_begin, storing_front, storing_next, storing_end, runs_kept, operation_low}
 use Rattle.rules.specs.Inner.Running.{Runs, operation_at}
 use Rattle.rules.specs.Drawing.{Drawing, drawing, op_count}
 use native.Mathlib.Omega.{arith}

@@ -7,7 +7,7 @@ use lib.ListN.{length, get_or, take, drop}
 use borrow.Author.Rules.{rules}
 use Rattle.rules.specs.Drawing.{Drawing, drawing, targets_of}
 use Rattle.rules.specs.Inner.Running.{outputs_at}
-use Rattle.rules.specs.Facts.Running.{Sizes, sizes, part_slice, scatter_asks, scattered_one}
+use Rattle.rules.proofs.Facts.Running.{Sizes, sizes, part_slice, scatter_asks, scattered_one}
 use Rattle.pass.proofs.store_one.Statement.{statement}
 use Rattle.pass.proofs.store_one.Tie as tie
 

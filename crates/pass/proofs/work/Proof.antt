@@ -2,7 +2,7 @@
 use Prim.Native.Nat.{◌+◌, ◌-◌}
 use native.Mathlib.Omega.{arith}
 use borrow.Author.Rules.{rules}
-use Rattle.rules.specs.Facts.Running.{value_asks, written_back}
+use Rattle.rules.proofs.Facts.Running.{value_asks, written_back}
 use Rattle.pass.proofs.work.Statement.{statement}
 use Rattle.pass.proofs.work.Tie as tie
 

@@ -7,8 +7,8 @@ use Rattle.rules.specs.Refusals.{number}
 use Rattle.rules.specs.declared.Refusal.{Refusal}
 use Rattle.rules.specs.Text.{Sections, whole, broken, whole_text, most_bytes}
 use Rattle.rules.specs.Program.{operation_lines, refused_line, answer, drawing_in, boundary_in, values_in, output_of}
-use Rattle.rules.specs.Facts.Output.{output_broken, output_whole}
-use Rattle.rules.specs.Facts.OutputLong.{orders-length}
+use Rattle.rules.proofs.Facts.Output.{output_broken, output_whole}
+use Rattle.rules.proofs.Facts.OutputLong.{orders-length}
 use Rattle.text.specs.declared.Text.{Text}
 use Rattle.text.specs.declared.Text.TheVariants.{Read as TextRead, Refused as TextRefused}
 use Rattle.text.specs.Reading.{text_answer, ReadText, sections_of}

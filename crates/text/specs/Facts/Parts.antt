@@ -5,8 +5,8 @@ use Rattle.std.proofs.lemmas.List.Edits.{sets, sets-eq}
 use Rattle.std.proofs.Math.Seq.{length-sets, take-append_seam, drop-append_seam}
 use Rattle.rules.specs.Lists.{sum, concat}
 use Rattle.rules.specs.Text.{Sections, whole, broken, whole_text, limits}
-use Rattle.rules.specs.Facts.Placing.{sum-take, sum-take_le, sum-all}
-use Rattle.rules.specs.Facts.TextSections.{Fit, whole_fits}
+use Rattle.rules.proofs.Facts.Placing.{sum-take, sum-take_le, sum-all}
+use Rattle.rules.proofs.Facts.TextSections.{Fit, whole_fits}
 use Rattle.text.specs.declared.Text.{Text}
 use Rattle.text.specs.declared.Text.TheVariants.{Read as TextRead, Refused as TextRefused}
 use Rattle.text.specs.Reading.{lengths, finished, numbers_of, text_answer, ReadText, sections_of, most_numbers}

@@ -7,8 +7,8 @@ use Rattle.rules.specs.Text.{number_at, Numbers, all_read, fault, section_at, Se
 use Rattle.rules.specs.declared.Number.TheVariants.{Value, Nothing, Bad}
 use Rattle.rules.specs.declared.Refusal.{Refusal}
 use Rattle.rules.specs.declared.Refusal.TheVariants.{BadText}
-use Rattle.rules.specs.Facts.Counts.{drop_more}
-use Rattle.rules.specs.Facts.TextSections.{section_count, sections_end, sections_value, sections_bad}
+use Rattle.rules.proofs.Facts.Counts.{drop_more}
+use Rattle.rules.proofs.Facts.TextSections.{section_count, sections_end, sections_value, sections_bad}
 use Rattle.text.specs.declared.Section.TheVariants.{Read as SectionRead, Refused as SectionRefused}
 use Rattle.text.specs.declared.Text.{Text}
 use Rattle.text.specs.declared.Text.TheVariants.{Read as TextRead, Refused as TextRefused}

@@ -5,8 +5,8 @@ use Rattle.rules.specs.Drawing.{Drawing, Maps, drawing, maps}
 use Rattle.rules.specs.Refusals.{unless}
 use Rattle.rules.specs.Inner.Checks.{lists_refusal}
 use Rattle.rules.specs.Inner.Arrow.{arrow_lists_refusal}
-use Rattle.rules.specs.Facts.Refusing.{fine_none, faulty_number}
-use Rattle.rules.specs.Facts.ArrowInputs.{source_faulty, target_faulty, entries_tested}
+use Rattle.rules.proofs.Facts.Refusing.{fine_none, faulty_number}
+use Rattle.rules.proofs.Facts.ArrowInputs.{source_faulty, target_faulty, entries_tested}
 use borrow.Author.Rules.{rules}
 use Rattle.arrow.proofs.inputs.check_arrow_lists.Statement.{statement}
 use Rattle.arrow.proofs.inputs.check_arrow_lists.Tie as tie

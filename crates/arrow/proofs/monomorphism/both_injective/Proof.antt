@@ -2,7 +2,7 @@ use Prim.Native.Nat.{ℕ}
 use native.Mathlib.Omega.{arith}
 use mathlib.Core.List.{List}
 use borrow.Author.Tests.{not-true, not-false}
-use Rattle.rules.specs.Facts.Monomorphism.{both_first, both_second}
+use Rattle.rules.proofs.Facts.Monomorphism.{both_first, both_second}
 use borrow.Author.Rules.{rules}
 use Rattle.arrow.proofs.monomorphism.both_injective.Statement.{statement}
 use Rattle.arrow.proofs.monomorphism.both_injective.Tie as tie

@@ -7,9 +7,9 @@ use lib.Seq.{length-take-le}
 use Rattle.rules.specs.Drawing.{Maps, AcceptedMaps, maps}
 use Rattle.rules.specs.Refusals.{maps_need}
 use Rattle.rules.specs.Calls.{maps_refusal}
-use Rattle.rules.specs.Facts.Accepts.{maps_iff}
-use Rattle.rules.specs.Facts.Refusing.{fine_none, faulty_number}
-use Rattle.rules.specs.Facts.Monomorphism.{mono_faulty, mono_short, mono_decided}
+use Rattle.rules.proofs.Facts.Accepts.{maps_iff}
+use Rattle.rules.proofs.Facts.Refusing.{fine_none, faulty_number}
+use Rattle.rules.proofs.Facts.Monomorphism.{mono_faulty, mono_short, mono_decided}
 use borrow.Author.Rules.{rules}
 use Rattle.arrow.proofs.monomorphism.is_monomorphism.Statement.{statement}
 use Rattle.arrow.proofs.monomorphism.is_monomorphism.Tie as tie

@@ -3,7 +3,7 @@ use mathlib.Core.Path.{◌≡◌, sym, ◌∙◌}
 use borrow.Author.Tests.{not-true, not-false}
 use Rattle.rules.specs.Drawing.{Drawing, Maps, drawing, maps}
 use Rattle.rules.specs.Inner.Arrow.{Carrying}
-use Rattle.rules.specs.Facts.Carried.{labels_w, labels_x, lists_s, carrying, nodes_below, ops_below, refused_labels_w, refused_labels_x, refused_s, refused_t, refused_none}
+use Rattle.rules.proofs.Facts.Carried.{labels_w, labels_x, lists_s, carrying, nodes_below, ops_below, refused_labels_w, refused_labels_x, refused_s, refused_t, refused_none}
 use Rattle.arrow.proofs.naturality.check_carried.Statement.{statement}
 use Rattle.arrow.proofs.naturality.check_carried.Tie as tie
 use Rattle.arrow.proofs.naturality.check_carried.Reads as reads

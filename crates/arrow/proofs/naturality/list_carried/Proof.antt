@@ -5,8 +5,8 @@ use mathlib.Core.Path.{◌≡◌}
 use lib.ListN.{length, get_or, take}
 use Rattle.rules.specs.Lists.{at, sum}
 use Rattle.rules.specs.Inner.Arrow.{Carrying}
-use Rattle.rules.specs.Facts.Member.{get_or-∈, ∈-part}
-use Rattle.rules.specs.Facts.Parts.{part-ends}
+use Rattle.rules.proofs.Facts.Member.{get_or-∈, ∈-part}
+use Rattle.rules.proofs.Facts.Parts.{part-ends}
 use borrow.Author.Rules.{rules}
 use Rattle.arrow.proofs.naturality.list_carried.Statement.{statement}
 use Rattle.arrow.proofs.naturality.list_carried.Tie as tie

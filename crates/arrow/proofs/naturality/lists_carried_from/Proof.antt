@@ -8,8 +8,8 @@ use borrow.Author.Tests.{not-true, not-false}
 use borrow.Author.Count.{below_more}
 use Rattle.rules.specs.Lists.{sum}
 use Rattle.rules.specs.Inner.Arrow.{carried_list}
-use Rattle.rules.specs.Facts.Parts.{part_next, part-ends}
-use Rattle.rules.specs.Facts.SameLists.{all-below, not-all}
+use Rattle.rules.proofs.Facts.Parts.{part_next, part-ends}
+use Rattle.rules.proofs.Facts.SameLists.{all-below, not-all}
 use borrow.Author.Rules.{rules}
 use Rattle.arrow.proofs.naturality.lists_carried_from.Statement.{statement}
 use Rattle.arrow.proofs.naturality.lists_carried_from.Tie as tie

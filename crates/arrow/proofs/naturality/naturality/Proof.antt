@@ -2,7 +2,7 @@ use mathlib.Core.Bool.{true}
 use mathlib.Core.Path.{◌≡◌, sym, ◌∙◌}
 use borrow.Author.Tests.{not-true, not-false}
 use Rattle.rules.specs.Drawing.{Drawing, Maps, drawing, maps}
-use Rattle.rules.specs.Facts.Carried.{type_w, type_x, types_sized, types_behind, refused_w, refused_x}
+use Rattle.rules.proofs.Facts.Carried.{type_w, type_x, types_sized, types_behind, refused_w, refused_x}
 use borrow.Author.Rules.{rules}
 use Rattle.arrow.proofs.naturality.naturality.Statement.{statement}
 use Rattle.arrow.proofs.naturality.naturality.Tie as tie

@@ -2,8 +2,8 @@ use mathlib.Core.Path.{◌≡◌, sym, ◌∙◌}
 use Rattle.rules.specs.Drawing.{Drawing, Maps, drawing, maps}
 use Rattle.rules.specs.Refusals.{number}
 use Rattle.rules.specs.Inner.Arrow.{arrow_inputs_refusal}
-use Rattle.rules.specs.Facts.Refusing.{number-some, fine_none, faulty_number}
-use Rattle.rules.specs.Facts.ArrowInputs.{inputs_accepted, validate_early, validate_behind}
+use Rattle.rules.proofs.Facts.Refusing.{number-some, fine_none, faulty_number}
+use Rattle.rules.proofs.Facts.ArrowInputs.{inputs_accepted, validate_early, validate_behind}
 use borrow.Author.Rules.{rules}
 use Rattle.arrow.proofs.validate.validate.Statement.{statement}
 use Rattle.arrow.proofs.validate.validate.Tie as tie

@@ -5,9 +5,9 @@ use Rattle.rules.specs.Maps.{Natural}
 use Rattle.rules.specs.Refusals.{number}
 use Rattle.rules.specs.Calls.{natural_refusal}
 use Rattle.rules.specs.Inner.Selected.{SelectedOps}
-use Rattle.rules.specs.Facts.ConvexDecides.{unnatural_no, natural_group}
-use Rattle.rules.specs.Facts.Naturality.{natural_iff}
-use Rattle.rules.specs.Facts.Refusing.{fine_none, faulty_number, number-some}
+use Rattle.rules.proofs.Facts.ConvexDecides.{unnatural_no, natural_group}
+use Rattle.rules.proofs.Facts.Naturality.{natural_iff}
+use Rattle.rules.proofs.Facts.Refusing.{fine_none, faulty_number, number-some}
 use borrow.Author.Rules.{rules}
 use Rattle.convexity.proofs.convex.decide.Statement.{statement}
 use Rattle.convexity.proofs.convex.decide.Tie as tie

@@ -7,8 +7,8 @@ use lib.Seq.{length-take-le}
 use borrow.Author.Tests.{not-true, not-false}
 use Rattle.rules.specs.Drawing.{Drawing, drawing}
 use Rattle.rules.specs.Refusals.{workspace_need}
-use Rattle.rules.specs.Facts.ConvexDecides.{group_repeats, group_walked}
-use Rattle.rules.specs.Facts.Injective.{filled-all}
+use Rattle.rules.proofs.Facts.ConvexDecides.{group_repeats, group_walked}
+use Rattle.rules.proofs.Facts.Injective.{filled-all}
 use borrow.Author.Rules.{rules}
 use Rattle.convexity.proofs.convex.decide_natural.Statement.{statement}
 use Rattle.convexity.proofs.convex.decide_natural.Tie as tie

@@ -1,8 +1,8 @@
 use mathlib.Core.Path.{◌≡◌}
 use Rattle.rules.specs.Drawing.{Drawing, Maps, drawing, maps}
 use Rattle.rules.specs.Inner.Arrow.{arrow_inputs_refusal}
-use Rattle.rules.specs.Facts.ConvexDecides.{convex_faulty}
-use Rattle.rules.specs.Facts.Refusing.{fine_none, faulty_number}
+use Rattle.rules.proofs.Facts.ConvexDecides.{convex_faulty}
+use Rattle.rules.proofs.Facts.Refusing.{fine_none, faulty_number}
 use borrow.Author.Rules.{rules}
 use Rattle.convexity.proofs.convex.is_convex_subgraph.Statement.{statement}
 use Rattle.convexity.proofs.convex.is_convex_subgraph.Tie as tie

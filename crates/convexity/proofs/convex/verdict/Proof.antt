@@ -4,8 +4,8 @@ use mathlib.Core.Path.{◌∙◌}
 use lib.ListN.{length, length-take}
 use lib.Seq.{length-take-le}
 use Rattle.rules.specs.Drawing.{Drawing, Maps, Accepted, AcceptedMaps, drawing, maps}
-use Rattle.rules.specs.Facts.ArrowInputs.{inputs_accepted}
-use Rattle.rules.specs.Facts.ConvexDecides.{convex_no_room, convex_decided}
+use Rattle.rules.proofs.Facts.ArrowInputs.{inputs_accepted}
+use Rattle.rules.proofs.Facts.ConvexDecides.{convex_no_room, convex_decided}
 use borrow.Author.Rules.{rules}
 use Rattle.convexity.proofs.convex.verdict.Statement.{statement}
 use Rattle.convexity.proofs.convex.verdict.Tie as tie

@@ -2,8 +2,8 @@ use Prim.Native.Nat.{ℕ, ◌<◌, ◌-◌}
 use mathlib.Core.List.Memᴰ
 use native.Mathlib.Omega.{arith}
 use lib.ListN.{length, get_or}
-use Rattle.rules.specs.Facts.Member.{get_or-∈}
-use Rattle.rules.specs.Facts.RoadDecides.{NoneMarked, none_more, found_one, found_none}
+use Rattle.rules.proofs.Facts.Member.{get_or-∈}
+use Rattle.rules.proofs.Facts.RoadDecides.{NoneMarked, none_more, found_one, found_none}
 use borrow.Author.Rules.{rules}
 use Rattle.convexity.proofs.road.any_marked.Statement.{statement}
 use Rattle.convexity.proofs.road.any_marked.Tie as tie

@@ -8,8 +8,8 @@ use Rattle.rules.specs.Drawing.{Drawing, drawing}
 use Rattle.rules.specs.Refusals.{workspace_need}
 use Rattle.rules.specs.Inner.Incidence.{items}
 use Rattle.rules.specs.Inner.Selected.{marks_from}
-use Rattle.rules.specs.Facts.Segments.{seg-length}
-use Rattle.rules.specs.Facts.RoadDecides.{road_laid, road_pair, road_decided}
+use Rattle.rules.proofs.Facts.Segments.{seg-length}
+use Rattle.rules.proofs.Facts.RoadDecides.{road_laid, road_pair, road_decided}
 use borrow.Author.Rules.{rules}
 use Rattle.convexity.proofs.road.has_road.Statement.{statement}
 use Rattle.convexity.proofs.road.has_road.Tie as tie

@@ -1,4 +1,4 @@
-use Rattle.rules.specs.Facts.Unselected.{kept-one, passed_one}
+use Rattle.rules.proofs.Facts.Unselected.{kept-one, passed_one}
 use borrow.Author.Rules.{rules}
 use Rattle.convexity.proofs.tables.keep.Statement.{statement}
 use Rattle.convexity.proofs.tables.keep.Tie as tie

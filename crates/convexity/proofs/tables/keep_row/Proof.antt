@@ -6,9 +6,9 @@ use lib.ListN.{length, get_or, take}
 use lib.Seq.{take_all, length-take-le}
 use Rattle.rules.specs.Lists.{seg}
 use Rattle.rules.specs.Inner.Selected.{Kept}
-use Rattle.rules.specs.Facts.Member.{get_or-∈}
-use Rattle.rules.specs.Facts.Segments.{seg-at, seg-length}
-use Rattle.rules.specs.Facts.Unselected.{kept-none, kept_more, kept-before, kept_few}
+use Rattle.rules.proofs.Facts.Member.{get_or-∈}
+use Rattle.rules.proofs.Facts.Segments.{seg-at, seg-length}
+use Rattle.rules.proofs.Facts.Unselected.{kept-none, kept_more, kept-before, kept_few}
 use borrow.Author.Rules.{rules}
 use Rattle.convexity.proofs.tables.keep_row.Statement.{statement}
 use Rattle.convexity.proofs.tables.keep_row.Tie as tie

@@ -2,7 +2,7 @@ use Prim.Native.Nat.{ℕ, ◌-◌}
 use mathlib.Core.Path.{refl}
 use native.Mathlib.Omega.{arith}
 use lib.ListN.{length}
-use Rattle.rules.specs.Facts.Unselected.{Flagging, flags_clear, flags_set}
+use Rattle.rules.proofs.Facts.Unselected.{Flagging, flags_clear, flags_set}
 use borrow.Author.Rules.{rules}
 use Rattle.convexity.proofs.tables.select.Statement.{statement}
 use Rattle.convexity.proofs.tables.select.Tie as tie

@@ -8,7 +8,7 @@ use Rattle.rules.specs.Drawing.{Drawing, drawing}
 use Rattle.rules.specs.Inner.Incidence.{items}
 use Rattle.rules.specs.Inner.IncidenceTable.{table_length}
 use Rattle.rules.specs.Inner.Selected.{marks_from}
-use Rattle.rules.specs.Facts.TwoTables.{Tabling, tabled_laid, tabled_table, tabled_room, flags_size, two_tables}
+use Rattle.rules.proofs.Facts.TwoTables.{Tabling, tabled_laid, tabled_table, tabled_room, flags_size, two_tables}
 use borrow.Author.Rules.{rules}
 use Rattle.convexity.proofs.tables.tables.Statement.{statement}
 use Rattle.convexity.proofs.tables.tables.Tie as tie

@@ -6,8 +6,8 @@ use lib.ListN.{length, get_or, take, set, length-set}
 use Rattle.rules.specs.Inner.Selected.{Filtering, Roomy}
 use Rattle.rules.specs.Inner.Table.{Table}
 use Rattle.rules.specs.Inner.Walk.{Laid}
-use Rattle.rules.specs.Facts.Standing.{still_laid}
-use Rattle.rules.specs.Facts.Unselected.{stored_front, filtering_first, filtering_more, filtering_last, filtered_from, row_rises, row_ends, row_room, row_flags, row_size_fits, kept_up}
+use Rattle.rules.proofs.Facts.Standing.{still_laid}
+use Rattle.rules.proofs.Facts.Unselected.{stored_front, filtering_first, filtering_more, filtering_last, filtered_from, row_rises, row_ends, row_room, row_flags, row_size_fits, kept_up}
 use borrow.Author.Rules.{rules}
 use Rattle.convexity.proofs.tables.unselected.Statement.{statement}
 use Rattle.convexity.proofs.tables.unselected.Tie as tie

@@ -8,9 +8,9 @@ use Rattle.convexity.specs.Stages.{rows_of, table_of}
 use Rattle.rules.specs.Inner.Search.{Followed, full_table, other_table}
 use Rattle.rules.specs.Inner.Table.{successors}
 use Rattle.rules.specs.Inner.Walk.{Laid}
-use Rattle.rules.specs.Facts.Member.{get_or-∈}
-use Rattle.rules.specs.Facts.Searching.{followed_none, followed_more, full_same, other_same}
-use Rattle.rules.specs.Facts.Standing.{still_laid}
+use Rattle.rules.proofs.Facts.Member.{get_or-∈}
+use Rattle.rules.proofs.Facts.Searching.{followed_none, followed_more, full_same, other_same}
+use Rattle.rules.proofs.Facts.Standing.{still_laid}
 use borrow.Author.Rules.{rules}
 use Rattle.convexity.proofs.walk.follow.Statement.{statement}
 use Rattle.convexity.proofs.walk.follow.Tie as tie

@@ -1,6 +1,6 @@
 use native.Mathlib.Omega.{arith}
 use lib.ListN.{length-set}
-use Rattle.rules.specs.Facts.Searching.{reach_room, reach_new, reach_old}
+use Rattle.rules.proofs.Facts.Searching.{reach_room, reach_new, reach_old}
 use borrow.Author.Rules.{rules}
 use Rattle.convexity.proofs.walk.reach.Statement.{statement}
 use Rattle.convexity.proofs.walk.reach.Tie as tie

@@ -1,4 +1,4 @@
-use Rattle.rules.specs.Facts.Searching.{row_part}
+use Rattle.rules.proofs.Facts.Searching.{row_part}
 use borrow.Author.Rules.{rules}
 use Rattle.convexity.proofs.walk.row.Statement.{statement}
 use Rattle.convexity.proofs.walk.row.Tie as tie

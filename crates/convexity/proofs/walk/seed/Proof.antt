@@ -6,9 +6,9 @@ use Rattle.rules.specs.Lists.{◌∈◌}
 use Rattle.rules.specs.Inner.Table.{successors}
 use Rattle.rules.specs.Inner.Search.{Pair, Searching, Row, full_table, other_table}
 use Rattle.rules.specs.Inner.Walk.{Laid}
-use Rattle.rules.specs.Facts.Member.{get_or-∈}
-use Rattle.rules.specs.Facts.Searching.{pair_same, searching_seed, table_row}
-use Rattle.rules.specs.Facts.Standing.{still_laid}
+use Rattle.rules.proofs.Facts.Member.{get_or-∈}
+use Rattle.rules.proofs.Facts.Searching.{pair_same, searching_seed, table_row}
+use Rattle.rules.proofs.Facts.Standing.{still_laid}
 use borrow.Author.Rules.{rules}
 use Rattle.convexity.proofs.walk.seed.Statement.{statement}
 use Rattle.convexity.proofs.walk.seed.Tie as tie

@@ -6,8 +6,8 @@ use lib.ListN.{length, get_or, take}
 use Rattle.rules.specs.Inner.Search.{Pair, Searching}
 use Rattle.rules.specs.Inner.Walk.{Laid}
 use Rattle.rules.specs.Inner.Words.{back}
-use Rattle.rules.specs.Facts.Searching.{Unmarked, unmarked_long, unmarked_front, unmarked_clear, pair_same, searching_first, searching_from, searching_step, searching_last, head_low, table_row, full_same, other_same}
-use Rattle.rules.specs.Facts.Standing.{still_laid}
+use Rattle.rules.proofs.Facts.Searching.{Unmarked, unmarked_long, unmarked_front, unmarked_clear, pair_same, searching_first, searching_from, searching_step, searching_last, head_low, table_row, full_same, other_same}
+use Rattle.rules.proofs.Facts.Standing.{still_laid}
 use borrow.Author.Rules.{rules}
 use Rattle.convexity.proofs.walk.walk.Statement.{statement}
 use Rattle.convexity.proofs.walk.walk.Tie as tie

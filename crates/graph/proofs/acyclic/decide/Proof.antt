@@ -1,6 +1,6 @@
 use mathlib.Core.Path.{◌∙◌}
 use Rattle.rules.specs.Drawing.{drawing}
-use Rattle.rules.specs.Facts.Acyclic.{decided}
+use Rattle.rules.proofs.Facts.Acyclic.{decided}
 use borrow.Author.Rules.{rules}
 use Rattle.graph.proofs.acyclic.decide.Statement.{statement}
 use Rattle.graph.proofs.acyclic.decide.Tie as tie

@@ -5,9 +5,9 @@ use lib.ListN.{length-take}
 use lib.Seq.{length-take-le}
 use Rattle.rules.specs.Drawing.{Drawing, drawing, Accepted}
 use Rattle.rules.specs.Calls.{drawing_refusal}
-use Rattle.rules.specs.Facts.Accepts.{accepted_iff}
-use Rattle.rules.specs.Facts.Refusing.{fine_none, faulty_number}
-use Rattle.rules.specs.Facts.Acyclic.{acyclic_faulty, acyclic_short, acyclic_decided}
+use Rattle.rules.proofs.Facts.Accepts.{accepted_iff}
+use Rattle.rules.proofs.Facts.Refusing.{fine_none, faulty_number}
+use Rattle.rules.proofs.Facts.Acyclic.{acyclic_faulty, acyclic_short, acyclic_decided}
 use borrow.Author.Rules.{rules}
 use Rattle.graph.proofs.acyclic.is_acyclic.Statement.{statement}
 use Rattle.graph.proofs.acyclic.is_acyclic.Tie as tie

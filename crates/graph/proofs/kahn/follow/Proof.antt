@@ -7,8 +7,8 @@ use lib.Seq.{length-take-le, get_or-take}
 use lib.Dec.{eqb}
 use Rattle.rules.specs.Inner.Walk.{Standing, Laid, Releasable, Released}
 use Rattle.rules.specs.Inner.Words.{bit}
-use Rattle.rules.specs.Facts.Standing.{releasable, release_stands, still_laid, row_from, row_more, row_over, hand_low, hand_shallow, taken, stands_still}
-use Rattle.rules.specs.Facts.Tables.{row_end}
+use Rattle.rules.proofs.Facts.Standing.{releasable, release_stands, still_laid, row_from, row_more, row_over, hand_low, hand_shallow, taken, stands_still}
+use Rattle.rules.proofs.Facts.Tables.{row_end}
 use Rattle.graph.specs.Release.{stored, followed, room_behind, degree_stored, depth_stored}
 use borrow.Author.Rules.{rules}
 use Rattle.graph.proofs.kahn.follow.Statement.{statement}

@@ -1,7 +1,7 @@
 use Rattle.rules.specs.Inner.Table.{Table}
 use Rattle.rules.specs.Inner.Walk.{Standing, Laid}
 use Rattle.rules.specs.Inner.Words.{up_from}
-use Rattle.rules.specs.Facts.Standing.{still_laid, worked_within, stands_last}
+use Rattle.rules.proofs.Facts.Standing.{still_laid, worked_within, stands_last}
 use Prim.Native.Nat.{ℕ, ◌≤◌, ◌-◌}
 use mathlib.Core.Path.{◌≡◌, refl, ◌∙◌}
 use mathlib.Core.List.{List, []}

@@ -6,8 +6,8 @@ use lib.ListN.{length, get_or, take}
 use lib.Dec.{eqb}
 use Rattle.rules.specs.Inner.Walk.{Standing, Laid, Releasable, Released}
 use Rattle.rules.specs.Inner.Words.{up_from, bit}
-use Rattle.rules.specs.Facts.Counts.{up_from_more, up_from_over}
-use Rattle.rules.specs.Facts.Standing.{releasable, release_stands, still_laid}
+use Rattle.rules.proofs.Facts.Counts.{up_from_more, up_from_over}
+use Rattle.rules.proofs.Facts.Standing.{releasable, release_stands, still_laid}
 use Rattle.graph.specs.Release.{stored, followed, room_behind}
 use borrow.Author.Rules.{rules}
 use Rattle.graph.proofs.kahn.seed.Statement.{statement}

@@ -8,7 +8,7 @@ use Rattle.hypergraph.proofs.adjacency.join_nodes.Reads as reads
 use Rattle.hypergraph.proofs.adjacency.join_nodes.Lts as lts
 use Rattle.indexed_coproduct.proofs.flatmap.flatmap.Reads as flatmap-reads
 use Rattle.rules.specs.Drawing.{Drawing, drawing}
-use Rattle.rules.specs.Facts.Flat.{node_rows, node_joinable, node_room}
+use Rattle.rules.proofs.Facts.Flat.{node_rows, node_joinable, node_room}
 
 module _ (s : tie.Start) where
   abbrev d : Drawing

@@ -8,7 +8,7 @@ use Rattle.hypergraph.proofs.adjacency.join_operations.Reads as reads
 use Rattle.hypergraph.proofs.adjacency.join_operations.Lts as lts
 use Rattle.indexed_coproduct.proofs.flatmap.flatmap.Reads as flatmap-reads
 use Rattle.rules.specs.Drawing.{Drawing, drawing}
-use Rattle.rules.specs.Facts.Flat.{op_joinable, op_rows, op_room}
+use Rattle.rules.proofs.Facts.Flat.{op_joinable, op_rows, op_room}
 
 module _ (s : tie.Start) where
   abbrev d : Drawing

@@ -8,7 +8,7 @@ use Rattle.hypergraph.proofs.adjacency.listed_targets.Lts as lts
 use Rattle.array.proofs.count_values.Reads as count-values-reads
 use Rattle.array.proofs.sum_at.Reads as sum-at-reads
 use Rattle.rules.specs.Drawing.{Drawing, drawing}
-use Rattle.rules.specs.Facts.Sizes.{counted-listings, zeros, op_size_fits}
+use Rattle.rules.proofs.Facts.Sizes.{counted-listings, zeros, op_size_fits}
 
 module _ (s : tie.Start) where
   abbrev d : Drawing

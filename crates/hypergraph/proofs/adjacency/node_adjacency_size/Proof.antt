@@ -9,10 +9,10 @@ use Rattle.hypergraph.proofs.adjacency.node_adjacency_size.Lts as lts
 use Rattle.array.proofs.dot.Reads as dot-reads
 use Rattle.hypergraph.proofs.check.check_drawing.Reads as check-drawing-reads
 use Rattle.rules.specs.Drawing.{Accepted, Drawing, drawing}
-use Rattle.rules.specs.Facts.Sizes.{node_size_fits, size_given, size_faulty, node_size}
+use Rattle.rules.proofs.Facts.Sizes.{node_size_fits, size_given, size_faulty, node_size}
 use Rattle.rules.specs.Calls.{drawing_refusal}
-use Rattle.rules.specs.Facts.Accepts.{accepted_iff}
-use Rattle.rules.specs.Facts.Refusing.{fine_none, faulty_number}
+use Rattle.rules.proofs.Facts.Accepts.{accepted_iff}
+use Rattle.rules.proofs.Facts.Refusing.{fine_none, faulty_number}
 use Rattle.rules.specs.Analysis.{node_next}
 
 module _ (s : tie.Start) where

@@ -15,12 +15,12 @@ use Rattle.hypergraph.proofs.adjacency.write_operations.Reads as write-operation
 use Rattle.hypergraph.proofs.check.workspace_need.Reads as workspace-need-reads
 use Rattle.rules.specs.Analysis.{op_next}
 use Rattle.rules.specs.Drawing.{Drawing, Accepted, drawing}
-use Rattle.rules.specs.Facts.RowsCalls.{rows_faulty, rows_sized, rows_done, rows_refused}
-use Rattle.rules.specs.Facts.Rooms.{rooms_three}
+use Rattle.rules.proofs.Facts.RowsCalls.{rows_faulty, rows_sized, rows_done, rows_refused}
+use Rattle.rules.proofs.Facts.Rooms.{rooms_three}
 use Rattle.rules.specs.Calls.{drawing_refusal}
 use Rattle.rules.specs.Lists.{row_entries}
-use Rattle.rules.specs.Facts.Sizes.{unsized_number, sized_none}
-use Rattle.rules.specs.Facts.Accepts.{accepted_iff}
+use Rattle.rules.proofs.Facts.Sizes.{unsized_number, sized_none}
+use Rattle.rules.proofs.Facts.Accepts.{accepted_iff}
 
 module _ (s : tie.Start) where
   abbrev d : Drawing

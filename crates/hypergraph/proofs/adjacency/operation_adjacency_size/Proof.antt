@@ -9,10 +9,10 @@ use Rattle.hypergraph.proofs.adjacency.listed_targets.Reads as listed-targets-re
 use Rattle.hypergraph.proofs.check.check_drawing.Reads as check-drawing-reads
 use Rattle.rules.specs.Drawing.{Accepted, Drawing, drawing}
 use Rattle.rules.specs.Calls.{drawing_refusal}
-use Rattle.rules.specs.Facts.Sizes.{size_given, size_faulty, op_size}
-use Rattle.rules.specs.Facts.Accepts.{accepted_iff}
+use Rattle.rules.proofs.Facts.Sizes.{size_given, size_faulty, op_size}
+use Rattle.rules.proofs.Facts.Accepts.{accepted_iff}
 use Rattle.rules.specs.Analysis.{op_next}
-use Rattle.rules.specs.Facts.Refusing.{fine_none, faulty_number}
+use Rattle.rules.proofs.Facts.Refusing.{fine_none, faulty_number}
 
 module _ (s : tie.Start) where
   abbrev d : Drawing

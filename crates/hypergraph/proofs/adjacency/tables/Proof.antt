@@ -10,7 +10,7 @@ use Rattle.hypergraph.proofs.adjacency.tables.Reads as reads
 use Rattle.hypergraph.proofs.adjacency.tables.Lts as lts
 use Rattle.indexed_coproduct.proofs.converse.converse.Reads as converse-reads
 use Rattle.indexed_coproduct.proofs.converse.starts.Reads as starts-reads
-use Rattle.rules.specs.Facts.Flat.{Laying, tables_laid}
+use Rattle.rules.proofs.Facts.Flat.{Laying, tables_laid}
 
 module _ (s : tie.Start) where
   abbrev table : ℕ

@@ -8,7 +8,7 @@ use Rattle.array.proofs.fill.Reads as fill-reads
 use Rattle.hypergraph.proofs.adjacency.join_nodes.Reads as join-nodes-reads
 use Rattle.hypergraph.proofs.adjacency.tables.Reads as tables-reads
 use Rattle.rules.specs.Drawing.{Drawing, drawing}
-use Rattle.rules.specs.Facts.RowsCalls.{all_cleared, tables_need}
+use Rattle.rules.proofs.Facts.RowsCalls.{all_cleared, tables_need}
 
 module _ (s : tie.Start) where
   abbrev d : Drawing

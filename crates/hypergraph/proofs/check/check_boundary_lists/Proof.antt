@@ -3,7 +3,7 @@ use mathlib.Core.Path.{◌≡◌, sym, ◌∙◌}
 use Rattle.rules.specs.Drawing.{Drawing, Boundary, drawing, boundary}
 use Rattle.rules.specs.Refusals.{unless}
 use Rattle.rules.specs.Inner.Checks.{boundary_lists_refusal}
-use Rattle.rules.specs.Facts.Refusing.{bound_faulty, bound_tested, fine_none, faulty_number}
+use Rattle.rules.proofs.Facts.Refusing.{bound_faulty, bound_tested, fine_none, faulty_number}
 use borrow.Author.Rules.{rules}
 use Rattle.hypergraph.proofs.check.check_boundary_lists.Statement.{statement}
 use Rattle.hypergraph.proofs.check.check_boundary_lists.Tie as tie

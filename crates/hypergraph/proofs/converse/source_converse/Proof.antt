@@ -11,11 +11,11 @@ use Rattle.hypergraph.proofs.check.check_drawing.Reads as check-drawing-reads
 use Rattle.hypergraph.proofs.check.workspace_need.Reads as workspace-need-reads
 use Rattle.hypergraph.proofs.converse.write_converse.Reads as write-converse-reads
 use Rattle.rules.specs.Calls.{drawing_refusal}
-use Rattle.rules.specs.Facts.RowsCalls.{rows_faulty, rows_fine}
+use Rattle.rules.proofs.Facts.RowsCalls.{rows_faulty, rows_fine}
 use Rattle.rules.specs.Drawing.{Drawing, Accepted, drawing}
-use Rattle.rules.specs.Facts.Incident.{fits_listed}
-use Rattle.rules.specs.Facts.Refusing.{fine_none, faulty_number}
-use Rattle.rules.specs.Facts.Accepts.{accepted_iff}
+use Rattle.rules.proofs.Facts.Incident.{fits_listed}
+use Rattle.rules.proofs.Facts.Refusing.{fine_none, faulty_number}
+use Rattle.rules.proofs.Facts.Accepts.{accepted_iff}
 
 module _ (s : tie.Start) where
   abbrev d : Drawing

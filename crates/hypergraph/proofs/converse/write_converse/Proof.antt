@@ -10,10 +10,10 @@ use Rattle.hypergraph.proofs.converse.write_converse.Reads as reads
 use Rattle.hypergraph.proofs.converse.write_converse.Lts as lts
 use Rattle.array.proofs.bincount.Reads as bincount-reads
 use Rattle.hypergraph.proofs.converse.write_entries.Reads as write-entries-reads
-use Rattle.rules.specs.Facts.RowsCalls.{rows_short, rows_done}
-use Rattle.rules.specs.Facts.Rooms.{rooms_three}
-use Rattle.rules.specs.Facts.ConverseTable.{counts-lengths}
-use Rattle.rules.specs.Facts.Rows.{counts_front}
+use Rattle.rules.proofs.Facts.RowsCalls.{rows_short, rows_done}
+use Rattle.rules.proofs.Facts.Rooms.{rooms_three}
+use Rattle.rules.proofs.Facts.ConverseTable.{counts-lengths}
+use Rattle.rules.proofs.Facts.Rows.{counts_front}
 
 -- the rooms fit
 module _ (c : tie.Else1) where

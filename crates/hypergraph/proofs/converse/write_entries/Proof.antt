@@ -12,8 +12,8 @@ use Rattle.hypergraph.proofs.converse.write_entries.Lts as lts
 use Rattle.array.proofs.copy.Reads as copy-reads
 use Rattle.array.proofs.fill.Reads as fill-reads
 use Rattle.indexed_coproduct.proofs.converse.converse_counted.Reads as converse-counted-reads
-use Rattle.rules.specs.Facts.ConverseTable.{entries_put}
-use Rattle.rules.specs.Facts.RowsCalls.{front_cleared}
+use Rattle.rules.proofs.Facts.ConverseTable.{entries_put}
+use Rattle.rules.proofs.Facts.RowsCalls.{front_cleared}
 
 -- the table stands in front of the workspace
 module _ (c : tie.After-converse-counted) where

@@ -3,7 +3,7 @@ use mathlib.Core.Path.{◌∙◌}
 use native.Mathlib.Omega.{arith}
 use lib.ListN.{length}
 use Rattle.rules.specs.Drawing.{Drawing, drawing, Accepted}
-use Rattle.rules.specs.Facts.Incident.{sources_listed, Rows, incident}
+use Rattle.rules.proofs.Facts.Incident.{sources_listed, Rows, incident}
 use borrow.Author.Rules.{rules}
 use Rattle.hypergraph.proofs.incidence.incidence.Statement.{statement}
 use Rattle.hypergraph.proofs.incidence.incidence.Tie as tie

@@ -2,8 +2,8 @@ use Prim.Native.Nat.{ℕ, ◌-◌, ◌+◌}
 use mathlib.Core.List.{List}
 use native.Mathlib.Omega.{arith}
 use lib.ListN.{length}
-use Rattle.rules.specs.Facts.Incident.{Lengths, y_long, y_nodes, sum_ops, offsets_set}
-use Rattle.rules.specs.Facts.Placing.{sum-all}
+use Rattle.rules.proofs.Facts.Incident.{Lengths, y_long, y_nodes, sum_ops, offsets_set}
+use Rattle.rules.proofs.Facts.Placing.{sum-all}
 use borrow.Author.Rules.{rules}
 use Rattle.hypergraph.proofs.incidence.offsets.Statement.{statement}
 use Rattle.hypergraph.proofs.incidence.offsets.Tie as tie

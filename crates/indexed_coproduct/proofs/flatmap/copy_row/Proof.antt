@@ -7,7 +7,7 @@ use Rattle.indexed_coproduct.proofs.flatmap.copy_row.Tie as tie
 use Rattle.indexed_coproduct.proofs.flatmap.copy_row.Reads as reads
 use Rattle.indexed_coproduct.proofs.flatmap.copy_row.Lts as lts
 use Rattle.array.proofs.copy.Reads as copy-reads
-use Rattle.rules.specs.Facts.Flat.{row_long, row_put}
+use Rattle.rules.proofs.Facts.Flat.{row_long, row_put}
 
 module _ (s : tie.Start) where
   abbrev start : ℕ

@@ -11,10 +11,10 @@ use Rattle.indexed_coproduct.proofs.flatmap.copy_rows.Reads as reads
 use Rattle.indexed_coproduct.proofs.flatmap.copy_rows.Lts as lts
 use Rattle.indexed_coproduct.proofs.flatmap.copy_row.Reads as copy-row-reads
 use Rattle.indexed_coproduct.proofs.flatmap.row_at.Reads as row-at-reads
-use Rattle.rules.specs.Facts.Flat.{put_more, put_nothing, put_long, rows_more, rows_within}
+use Rattle.rules.proofs.Facts.Flat.{put_more, put_nothing, put_long, rows_more, rows_within}
 use Rattle.rules.specs.Inner.Rows.{Put, row_of}
 use Rattle.rules.specs.Lists.{concat}
-use Rattle.rules.specs.Facts.Member.{get_or-∈}
+use Rattle.rules.proofs.Facts.Member.{get_or-∈}
 
 abbrev invariant-loop : tie.invariant-loop
 invariant-loop list off rows vals₀ at to₀ p₀ vals to p = (p ≤ length list) × Put at (concat (map (row_of off rows) (take p list))) vals₀ vals to

@@ -4,18 +4,18 @@ use mathlib.Core.List.{List, map, ◌++◌}
 use native.Mathlib.Omega.{arith}
 use native.Mathlib.Numerals.{add-one}
 use lib.ListN.{length, get_or, set, drop, length-set}
-use Rattle.rules.specs.Facts.Stores.{at_set}
+use Rattle.rules.proofs.Facts.Stores.{at_set}
 use borrow.Author.Rules.{rules}
 use Rattle.indexed_coproduct.proofs.flatmap.flatmap.Statement.{statement}
 use Rattle.indexed_coproduct.proofs.flatmap.flatmap.Tie as tie
 use Rattle.indexed_coproduct.proofs.flatmap.flatmap.Reads as reads
 use Rattle.indexed_coproduct.proofs.flatmap.flatmap.Lts as lts
 use Rattle.indexed_coproduct.proofs.flatmap.copy_rows.Reads as copy-rows-reads
-use Rattle.rules.specs.Facts.Rows.{put_each, entries_le, entries_suc, entries_next}
+use Rattle.rules.proofs.Facts.Rows.{put_each, entries_le, entries_suc, entries_next}
 use Rattle.rules.specs.Lists.{◌∈◌, seg, row_entries, concat}
-use Rattle.rules.specs.Facts.Flat.{put_long, put_nothing, flat_is, put_more}
+use Rattle.rules.proofs.Facts.Flat.{put_long, put_nothing, flat_is, put_more}
 use Rattle.rules.specs.Inner.Rows.{flat_row, row_of, Put}
-use Rattle.rules.specs.Facts.Member.{∈-drop, ∈-take}
+use Rattle.rules.proofs.Facts.Member.{∈-drop, ∈-take}
 
 abbrev invariant-loop : tie.invariant-loop
 invariant-loop k aoff avals boff bvals lens₀ vals₀ at₀ i₀ lens vals at i =

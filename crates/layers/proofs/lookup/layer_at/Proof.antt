@@ -7,8 +7,8 @@ use lib.ListN.{length}
 use lib.Dec.{ltb}
 use borrow.Author.Tests.{ltb-true}
 use Rattle.rules.specs.Analysis.{sound}
-use Rattle.rules.specs.Facts.Tests.{both}
-use Rattle.rules.specs.Facts.Lookup.{Sound, sound_facts, part-starts, part-ends, layer_there, layer_none}
+use Rattle.rules.proofs.Facts.Tests.{both}
+use Rattle.rules.proofs.Facts.Lookup.{Sound, sound_facts, part-starts, part-ends, layer_there, layer_none}
 use borrow.Author.Rules.{rules}
 use Rattle.layers.proofs.lookup.layer_at.Statement.{statement}
 use Rattle.layers.proofs.lookup.layer_at.Tie as tie

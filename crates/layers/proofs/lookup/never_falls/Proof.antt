@@ -3,7 +3,7 @@ use mathlib.Core.Path.{◌≡◌, sym, ◌∙◌}
 use native.Mathlib.Omega.{arith}
 use lib.ListN.{length, drop}
 use Rattle.rules.specs.Analysis.{rising}
-use Rattle.rules.specs.Facts.Lookup.{rising_more, rising-not, rising_end}
+use Rattle.rules.proofs.Facts.Lookup.{rising_more, rising-not, rising_end}
 use borrow.Author.Rules.{rules}
 use Rattle.layers.proofs.lookup.never_falls.Statement.{statement}
 use Rattle.layers.proofs.lookup.never_falls.Tie as tie

@@ -1,5 +1,5 @@
 use native.Mathlib.Omega.{arith}
-use Rattle.rules.specs.Facts.Lookup.{sound-not, sound_tested}
+use Rattle.rules.proofs.Facts.Lookup.{sound-not, sound_tested}
 use lib.ListN.{length}
 use borrow.Author.Rules.{rules}
 use Rattle.layers.proofs.lookup.offsets_sound.Statement.{statement}

@@ -3,7 +3,7 @@ use mathlib.Core.Path.{◌≡◌, refl, ap, ◌∙◌}
 use native.Mathlib.Omega.{arith}
 use lib.ListN.{take}
 use Rattle.rules.specs.Lists.{sum}
-use Rattle.rules.specs.Facts.Placing.{sum-take}
+use Rattle.rules.proofs.Facts.Placing.{sum-take}
 use Rattle.text.specs.Facts.Parts.{section_inside}
 use borrow.Author.Rules.{rules}
 use Rattle.text.proofs.reader.place_of.Statement.{statement}

@@ -1,8 +1,8 @@
 use native.Mathlib.Omega.{arith}
 use lib.ListN.{drop, length-drop}
 use mathlib.Core.Path.{◌∙◌}
-use Rattle.rules.specs.Facts.TextWords.{word_le}
-use Rattle.rules.specs.Facts.TextWords.{nothing_left, word_is}
+use Rattle.rules.proofs.Facts.TextWords.{word_le}
+use Rattle.rules.proofs.Facts.TextWords.{nothing_left, word_is}
 use borrow.Author.Rules.{rules}
 use Rattle.text.proofs.reader.read_number.Statement.{statement}
 use Rattle.text.proofs.reader.read_number.Tie as tie

@@ -1,5 +1,5 @@
 use native.Mathlib.Omega.{arith}
-use Rattle.rules.specs.Facts.TextSections.{section_read, section_over, section_nothing, section_bad}
+use Rattle.rules.proofs.Facts.TextSections.{section_read, section_over, section_nothing, section_bad}
 use Rattle.text.specs.Facts.Numbers.{refused_is}
 use borrow.Author.Rules.{rules}
 use Rattle.text.proofs.reader.read_section.Statement.{statement}

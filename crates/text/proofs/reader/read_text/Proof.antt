@@ -7,7 +7,7 @@ use lib.ListN.{length, get_or, take, drop, length-set, length-take, length-drop,
 use lib.Seq.{sets, length-sets}
 use Rattle.rules.specs.Lists.{sum}
 use Rattle.rules.specs.Text.{limits, section_at, sections_at}
-use Rattle.rules.specs.Facts.Counts.{sum_more}
+use Rattle.rules.proofs.Facts.Counts.{sum_more}
 use Rattle.text.specs.Reading.{section_answer, kept, most_numbers}
 use Rattle.text.specs.Facts.Sections.{ending, text_more, text_fault, text_end, text_value, text_bad, text_is, section_within}
 use Rattle.text.specs.Facts.Sets.{part-back}

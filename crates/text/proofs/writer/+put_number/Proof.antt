@@ -1,5 +1,5 @@
 use native.Mathlib.Omega.{arith}
-use Rattle.rules.specs.Facts.Writing.{decimal_small, decimal_more, shorter}
+use Rattle.rules.proofs.Facts.Writing.{decimal_small, decimal_more, shorter}
 use Rattle.text.specs.Facts.Puts.{put_then, put_long}
 use borrow.Author.Rules.{rules}
 use Prim.Native.Nat.{ℕ, ◌<◌}

@@ -5,7 +5,7 @@ use mathlib.Core.Logic.{⊎_elim}
 use native.Mathlib.Omega.{arith}
 use lib.ListN.{length, drop}
 use Rattle.rules.specs.Program.{unplaced_count}
-use Rattle.rules.specs.Facts.Writing.{unplaced_more, unplaced_other, unplaced_end}
+use Rattle.rules.proofs.Facts.Writing.{unplaced_more, unplaced_other, unplaced_end}
 use borrow.Author.Rules.{rules}
 use Rattle.text.proofs.writer.count_unplaced.Statement.{statement}
 use Rattle.text.proofs.writer.count_unplaced.Tie as tie

@@ -2,7 +2,7 @@ use Prim.Native.Nat.{◌≤◌, ◌+◌, ◌-◌}
 use mathlib.Core.Path.{◌≡◌}
 use native.Mathlib.Omega.{arith}
 use lib.ListN.{length, drop, get_or, drop_of_length-le}
-use Rattle.rules.specs.Facts.Counts.{drop_more}
+use Rattle.rules.proofs.Facts.Counts.{drop_more}
 use Rattle.text.specs.Facts.Puts.{Rest, rest_start, rest_more, rest_none, put_one}
 use borrow.Author.Rules.{rules}
 use Rattle.text.proofs.writer.put_bytes.Statement.{statement}

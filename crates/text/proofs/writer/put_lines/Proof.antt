@@ -3,7 +3,7 @@ use mathlib.Core.List.{List, ◌++◌}
 use native.Mathlib.Omega.{arith}
 use lib.ListN.{length, drop, get_or}
 use Rattle.rules.specs.Program.{line, lines}
-use Rattle.rules.specs.Facts.Writing.{lines_more, lines_end}
+use Rattle.rules.proofs.Facts.Writing.{lines_more, lines_end}
 use Rattle.text.specs.Facts.Puts.{Rest, rest_start, rest_more, rest_room, rest_none}
 use borrow.Author.Rules.{rules}
 use Rattle.text.proofs.writer.put_lines.Statement.{statement}
