@@ -1,4 +1,6 @@
 // All of the program as one function from bytes to bytes.
+#![tactic(auto)]
+
 ghost use Rattle.std.specs.Prelude.{◌≡◌, ◌+◌, ◌≤◌, length};
 ghost use Rattle.rules.specs.Drawing.{drawing, boundary};
 ghost use Rattle.rules.specs.Calls.{boundary_refusal, layer_refusal};

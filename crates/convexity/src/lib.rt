@@ -1,4 +1,6 @@
 // Convexity: the two tables of the walk, the walk, and whether there is a road.
+#![tactic(auto)]
+
 pub mod convex;
 pub mod road;
 pub mod tables;

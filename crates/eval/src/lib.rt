@@ -2,6 +2,8 @@
 //
 // `inputs` and `outputs` are the drawing's boundary, `values` the input values, `out` the room for the answer.
 // The workspace is laid out as the crate `pass` says.
+#![tactic(auto)]
+
 ghost use Rattle.std.specs.Prelude.{true, ◌≡◌, ℕ, ◌<◌, length, replicate};
 ghost use Rattle.rules.specs.Lists.{all, range};
 ghost use Rattle.rules.specs.Drawing.{Accepted, AcceptedBoundary, drawing, boundary, node_count, op_count};

@@ -1,4 +1,6 @@
 // The program: a text on standard input, what document 01 says of it on standard output.
+#![tactic(auto)]
+
 fn main() {
     // One byte more than a text may have.
     let mut text = [0u8; 65537];

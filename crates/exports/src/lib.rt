@@ -4,6 +4,8 @@
 // word that the caller lends. Parameters stand in this order: first drawing, second drawing (each w, x, sl, sv, tl, tv: node labels,
 // operation labels, source lengths, source values, target lengths, target values), map w and its declared target, map x and its, boundary
 // inputs, boundary outputs, input values, outputs in document 01's order, workspace, the answer's word.
+#![tactic(auto)]
+
 ghost use Rattle.std.specs.Prelude.{◌≡◌};
 ghost use Rattle.rules.specs.Drawing.{drawing, maps, boundary};
 ghost use Rattle.rules.specs.Refusals.{refusal_of};

@@ -1,4 +1,6 @@
 // Finite functions: the entries of a map, below a declared target.
+#![tactic(auto)]
+
 ghost use Rattle.std.specs.Prelude.{map, ◌≡◌, ℕ, ◌<◌, ◌^◌, length};
 ghost use Rattle.rules.specs.Lists.{◌∈◌, at, same_list};
 ghost use Rattle.rules.specs.Maps.{Injective};

@@ -1,3 +1,5 @@
 // Layers of a drawing's operations.
+#![tactic(auto)]
+
 pub mod layer;
 pub mod lookup;

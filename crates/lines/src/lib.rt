@@ -1,4 +1,6 @@
 // For programs that read many cases from one input, line by line.
+#![tactic(auto)]
+
 ghost use Rattle.std.specs.Prelude.{◌≡◌, ◌+◌, min, drop};
 ghost use Rattle.lines.specs.Line.{line_length};
 

@@ -1,4 +1,6 @@
 // Memory: words that are written at listed places, in a slice of their own or within a workspace.
+#![tactic(auto)]
+
 ghost use Rattle.std.specs.Prelude.{◌≡◌, ℕ, ◌+◌, ◌≤◌, ◌<◌, min, length};
 ghost use Rattle.rules.specs.Lists.{◌∈◌, has, seg};
 ghost use Rattle.rules.specs.Evaluation.{store_all};

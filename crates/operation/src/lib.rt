@@ -1,6 +1,8 @@
 // The operation table: which operation a label stands for, with how many inputs and outputs, and what it computes.
 //
 // An operation reads its inputs where they stand, at places of the memory, in order; then it writes its outputs into the part that it is lent.
+#![tactic(auto)]
+
 ghost use Rattle.std.specs.Prelude.{◌≡◌, ◌-◌, ◌^◌, ◌<◌, ◌≤◌, min, max, true, map, length, replicate, if◌then◌else◌, nat_eq};
 ghost use Rattle.rules.specs.Lists.{at};
 ghost use Rattle.rules.specs.Evaluation.{operation, suits, least, most, place_of, result};

@@ -3,6 +3,8 @@
 //
 // The workspace, for m operations and n nodes: m orders, m marks, m operations layer by layer, m + 1 offsets; where each operation's
 // sources begin, and its targets, m each; n words of memory; the room, in which each operation has a part for its outputs.
+#![tactic(auto)]
+
 ghost use Rattle.std.specs.Prelude.{true, map, ◌≡◌, ℕ, ◌+◌, ◌≤◌, ◌<◌, ◌^◌, length};
 ghost use Rattle.rules.specs.Lists.{◌∈◌, at, seg};
 ghost use Rattle.rules.specs.Drawing.{drawing, node_count, targets_of};

@@ -12,6 +12,8 @@
 //     inputs outputs values           three lists; the calls over offsets take operations and offsets in the first two
 //
 // A list is its count and then its entries; a long list of equal entries is its count and 65,536 more, and the entry.
+#![tactic(auto)]
+
 mod call;
 mod lists;
 mod show;

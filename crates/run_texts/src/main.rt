@@ -2,6 +2,8 @@
 //
 // Each begins with a line of its own: five digits, how many bytes it has; a space; five digits, how often the last of them is to stand; and
 // words. That line is written again, and then what the answer is. A line's end stands behind each text.
+#![tactic(auto)]
+
 ghost use Rattle.std.specs.Prelude.{◌≤◌, ◌<◌, length};
 
 use lines::{least, line_end};

@@ -1,6 +1,8 @@
 // Runs document 01's cases for the walk, and large ones, and prints the verdict, orders, marks and layers of each.
 //
 // Of a long list the first eight entries are printed, and each 1,024th.
+#![tactic(auto)]
+
 use rules::{Done, Refusal, Verdict, number_of};
 
 fn put_number(n: u32) {

@@ -1,4 +1,6 @@
 // Document 01's format: a text read from lent bytes into lent lists, and an answer written into lent bytes.
+#![tactic(auto)]
+
 pub mod reader;
 pub mod writer;
 
