@@ -5,12 +5,12 @@
 
 ghost use Rattle.std.specs.Prelude.{◌≡◌, ◌-◌, ◌^◌, ◌<◌, ◌≤◌, min, max, true, map, length, replicate, if◌then◌else◌, nat_eq};
 ghost use Rattle.rules.specs.Lists.{at};
-ghost use Rattle.rules.specs.Evaluation.{operation, suits, least, most, place_of, result};
+ghost use Rattle.rules.specs.Evaluation.{operation, suits, least, most, place_of, outcome};
 ghost use Rattle.rules.specs.Inner.Operating.{Suited, Placed};
 
 // Whether a label is known and its operation has so many inputs and outputs.
 pub fn suits(label: u32, ins: usize, outs: usize) -> bool
-    ensures* { λ r. ⌜ r ≡ suits (operation label) ins outs ⌝ }
+    ensures { result ≡ suits (operation label) ins outs }
 {
     match label {
         0 => (ins == 1) & (1 <= outs),
@@ -29,14 +29,14 @@ pub fn suits(label: u32, ins: usize, outs: usize) -> bool
 
 // The smaller of two numbers.
 fn smaller(a: u32, b: u32) -> u32
-    ensures* { λ r. ⌜ r ≡ min a b ⌝ }
+    ensures { result ≡ min a b }
 {
     if b < a { b } else { a }
 }
 
 // The larger of two numbers minus the smaller.
 fn difference(a: u32, b: u32) -> u32
-    ensures* { λ r. ⌜ r ≡ max a b - min a b ⌝ }
+    ensures { result ≡ max a b - min a b }
 {
     if a < b { b - a } else { a - b }
 }
@@ -44,7 +44,7 @@ fn difference(a: u32, b: u32) -> u32
 // Input i.
 fn input(memory: &[u32], places: &[u32], i: usize) -> u32
     requires { Placed memory.now places.now × (i < length places.now) }
-    ensures* { λ r. ⌜ r ≡ at (map (at memory.now) places.now) i ⌝ }
+    ensures { result ≡ at (map (at memory.now) places.now) i }
 {
     memory[places[i] as usize]
 }
@@ -52,7 +52,7 @@ fn input(memory: &[u32], places: &[u32], i: usize) -> u32
 // The smallest of one or more inputs.
 fn smallest(memory: &[u32], places: &[u32]) -> u32
     requires { Placed memory.now places.now × (1 ≤ length places.now) }
-    ensures* { λ r. ⌜ r ≡ least (map (at memory.now) places.now) ⌝ }
+    ensures { result ≡ least (map (at memory.now) places.now) }
 {
     let mut best = input(memory, places, 0);
     let mut i = 1;
@@ -66,7 +66,7 @@ fn smallest(memory: &[u32], places: &[u32]) -> u32
 // The largest of one or more inputs.
 fn largest(memory: &[u32], places: &[u32]) -> u32
     requires { Placed memory.now places.now × (1 ≤ length places.now) }
-    ensures* { λ r. ⌜ r ≡ most (map (at memory.now) places.now) ⌝ }
+    ensures { result ≡ most (map (at memory.now) places.now) }
 {
     let mut best = input(memory, places, 0);
     let mut i = 1;
@@ -80,7 +80,7 @@ fn largest(memory: &[u32], places: &[u32]) -> u32
 // The position of the first smallest of one or more inputs.
 fn first_smallest(memory: &[u32], places: &[u32]) -> u32
     requires { Placed memory.now places.now × (1 ≤ length places.now) × (length places.now < 2 ^ 32) }
-    ensures* { λ r. ⌜ r ≡ place_of (least (map (at memory.now) places.now)) (map (at memory.now) places.now) ⌝ }
+    ensures { result ≡ place_of (least (map (at memory.now) places.now)) (map (at memory.now) places.now) }
 {
     let mut best = 0;
     let mut i = 1;
@@ -95,7 +95,7 @@ fn first_smallest(memory: &[u32], places: &[u32]) -> u32
 
 // Which input is chosen: the second if the first is not 0, else the third. (A number and no jump: which it is cannot be foreseen.)
 fn chosen(first: u32) -> usize
-    ensures* { λ r. ⌜ r ≡ (if nat_eq first 0 then 2 else 1) ⌝ }
+    ensures { result ≡ (if nat_eq first 0 then 2 else 1) }
 {
     if first == 0 { 2 } else { 1 }
 }
@@ -104,7 +104,7 @@ fn chosen(first: u32) -> usize
 pub fn value(label: u32, memory: &[u32], places: &[u32]) -> u32
     requires placed { Placed memory.now places.now × (length places.now < 2 ^ 32) }
     requires suited { Suited (operation label) (length places.now) }
-    ensures* { λ r. ⌜ r ≡ at (result (operation label) (map (at memory.now) places.now) 1) 0 ⌝ }
+    ensures { result ≡ at (outcome (operation label) (map (at memory.now) places.now) 1) 0 }
 {
     match label {
         0 => input(memory, places, 0),
@@ -123,7 +123,7 @@ pub fn value(label: u32, memory: &[u32], places: &[u32]) -> u32
 
 // An operation writes its outputs, each of them the value, into its own part of a lent room.
 pub fn write(outputs: &mut [u32], value: u32)
-    ensures* { λ _. ⌜ outputs.new ≡ replicate (length outputs.old) value ⌝ }
+    ensures { outputs.new ≡ replicate (length outputs.old) value }
 {
     let outs = outputs.len();
     array::fill(outputs, outs, value);

@@ -9,7 +9,7 @@ ghost use Rattle.std.specs.Prelude.{true, map, ◌≡◌, ℕ, ◌+◌, ◌≤�
 ghost use Rattle.rules.specs.Lists.{◌∈◌, at, seg};
 ghost use Rattle.rules.specs.Drawing.{drawing, node_count, targets_of};
 ghost use Rattle.rules.specs.Analysis.{orders, layers};
-ghost use Rattle.rules.specs.Evaluation.{operation, suits, result, store_all, run};
+ghost use Rattle.rules.specs.Evaluation.{operation, suits, outcome, store_all, run};
 ghost use Rattle.rules.specs.Inner.Running.{Runs, Reads, ReadUpTo, StoredUpTo, Ran, Ready, memory_at, memory_of, outputs_in, operation_at};
 ghost use Rattle.rules.specs.Inner.Words.{back};
 
@@ -18,7 +18,7 @@ ghost use Rattle.rules.specs.Inner.Words.{back};
 fn work(ws: &mut [u32], base: usize, n: usize, from: usize, label: u32, places: &[u32], outs: usize)
     requires by_index { ((u : ℕ) → u ∈ places.now → u < n) × (base + n ≤ length ws.old) × (from + outs ≤ length ws.old) }
     requires outs_value { (suits (operation label) (length places.now) outs ≡ true) × (length places.now < 2 ^ 32) }
-    ensures* { λ _. ⌜ ws.new ≡ back from outs (result (operation label) (map (at (seg base n ws.old)) places.now) outs) ws.old ⌝ }
+    ensures { ws.new ≡ back from outs (outcome (operation label) (map (at (seg base n ws.old)) places.now) outs) ws.old }
 {
     let room = base + n;
     let end = from + outs;
@@ -39,7 +39,7 @@ fn read_one(
 )
     requires runs { Runs (drawing w.now x.now sl.now sv.now tl.now tv.now) ws.old }
     requires e_in_bounds { e < length x.now }
-    ensures* { λ _. ⌜ Reads (drawing w.now x.now sl.now sv.now tl.now tv.now) e ws.old ws.new ⌝ }
+    ensures { Reads (drawing w.now x.now sl.now sv.now tl.now tv.now) e ws.old ws.new }
 {
     let m = x.len();
     let n = w.len();
@@ -63,7 +63,7 @@ fn store_one(
 )
     requires runs { Runs (drawing w.now x.now sl.now sv.now tl.now tv.now) ws.old }
     requires e_in_bounds { e < length x.now }
-    ensures* { λ _. ⌜ ws.new ≡ back (memory_at (drawing w.now x.now sl.now sv.now tl.now tv.now)) (node_count (drawing w.now x.now sl.now sv.now tl.now tv.now)) (store_all (targets_of (drawing w.now x.now sl.now sv.now tl.now tv.now) e) (outputs_in (drawing w.now x.now sl.now sv.now tl.now tv.now) ws.old e) (memory_of (drawing w.now x.now sl.now sv.now tl.now tv.now) ws.old)) ws.old ⌝ }
+    ensures { ws.new ≡ back (memory_at (drawing w.now x.now sl.now sv.now tl.now tv.now)) (node_count (drawing w.now x.now sl.now sv.now tl.now tv.now)) (store_all (targets_of (drawing w.now x.now sl.now sv.now tl.now tv.now) e) (outputs_in (drawing w.now x.now sl.now sv.now tl.now tv.now) ws.old e) (memory_of (drawing w.now x.now sl.now sv.now tl.now tv.now) ws.old)) ws.old }
 {
     let m = x.len();
     let n = w.len();
@@ -87,7 +87,7 @@ fn read_layer(
 )
     requires runs { Runs (drawing w.now x.now sl.now sv.now tl.now tv.now) ws.old }
     requires lo_le_hi { (lo ≤ hi) × (hi ≤ length x.now) }
-    ensures* { λ _. ⌜ ReadUpTo (drawing w.now x.now sl.now sv.now tl.now tv.now) lo hi ws.old ws.new ⌝ }
+    ensures { ReadUpTo (drawing w.now x.now sl.now sv.now tl.now tv.now) lo hi ws.old ws.new }
 {
     let operations = 2 * x.len();
     let mut p = lo;
@@ -113,7 +113,7 @@ fn store_layer(
     requires runs { Runs (drawing w.now x.now sl.now sv.now tl.now tv.now) ws.old }
     requires lo_le_hi { (lo ≤ hi) × (hi ≤ length x.now) }
     requires by_index { (q : ℕ) → lo ≤ q → q < hi → Ready (drawing w.now x.now sl.now sv.now tl.now tv.now) (memory_of (drawing w.now x.now sl.now sv.now tl.now tv.now) ws.old) ws.old (operation_at (drawing w.now x.now sl.now sv.now tl.now tv.now) ws.old q) }
-    ensures* { λ _. ⌜ StoredUpTo (drawing w.now x.now sl.now sv.now tl.now tv.now) lo hi ws.old ws.new ⌝ }
+    ensures { StoredUpTo (drawing w.now x.now sl.now sv.now tl.now tv.now) lo hi ws.old ws.new }
 {
     let operations = 2 * x.len();
     let count = hi - lo;
@@ -140,7 +140,7 @@ fn run_layer(
 )
     requires runs { Runs (drawing w.now x.now sl.now sv.now tl.now tv.now) ws.old }
     requires lo_le_hi { (lo ≤ hi) × (hi ≤ length x.now) }
-    ensures* { λ _. ⌜ StoredUpTo (drawing w.now x.now sl.now sv.now tl.now tv.now) lo hi ws.old ws.new ⌝ }
+    ensures { StoredUpTo (drawing w.now x.now sl.now sv.now tl.now tv.now) lo hi ws.old ws.new }
 {
     read_layer(ws, w, x, sl, sv, tl, tv, lo, hi);
     store_layer(ws, w, x, sl, sv, tl, tv, lo, hi);
@@ -157,7 +157,7 @@ pub fn run_layers(
     tv: &[u32],
 )
     requires { Runs (drawing w.now x.now sl.now sv.now tl.now tv.now) ws.old }
-    ensures* { λ _. ⌜ Ran (drawing w.now x.now sl.now sv.now tl.now tv.now) (run (drawing w.now x.now sl.now sv.now tl.now tv.now) (layers (orders (drawing w.now x.now sl.now sv.now tl.now tv.now))) (memory_of (drawing w.now x.now sl.now sv.now tl.now tv.now) ws.old)) ws.old ws.new ⌝ }
+    ensures { Ran (drawing w.now x.now sl.now sv.now tl.now tv.now) (run (drawing w.now x.now sl.now sv.now tl.now tv.now) (layers (orders (drawing w.now x.now sl.now sv.now tl.now tv.now))) (memory_of (drawing w.now x.now sl.now sv.now tl.now tv.now) ws.old)) ws.old ws.new }
 {
     let m = x.len();
     let offsets = 3 * m;

@@ -61,18 +61,18 @@ place_of v [] = 0
 place_of v (a ∷ l) = cond (eqb a v) 0 (suc (place_of v l))
 
 -- Result, for numbers of inputs and outputs that suit.
-abbrev pub result : Operation → List ℕ → ℕ → List ℕ
-result copy ins outs = replicate outs (at ins 0)
-result add ins outs = ((at ins 0 + at ins 1) % 2 ^ 32) ∷ []
-result difference ins outs = (max (at ins 0) (at ins 1) - min (at ins 0) (at ins 1)) ∷ []
-result smallest ins outs = least ins ∷ []
-result largest ins outs = most ins ∷ []
-result middle ins outs = ((at ins 0 + at ins 1) % 2 ^ 32 / 2) ∷ []
-result choose ins outs = cond (eqb (at ins 0) 0) (at ins 2) (at ins 1) ∷ []
-result first_smallest ins outs = place_of (least ins) ins ∷ []
-result (shift k) ins outs = (at ins 0 / 2 ^ k) ∷ []
-result (constant k) ins outs = k ∷ []
-result unknown ins outs = []
+abbrev pub outcome : Operation → List ℕ → ℕ → List ℕ
+outcome copy ins outs = replicate outs (at ins 0)
+outcome add ins outs = ((at ins 0 + at ins 1) % 2 ^ 32) ∷ []
+outcome difference ins outs = (max (at ins 0) (at ins 1) - min (at ins 0) (at ins 1)) ∷ []
+outcome smallest ins outs = least ins ∷ []
+outcome largest ins outs = most ins ∷ []
+outcome middle ins outs = ((at ins 0 + at ins 1) % 2 ^ 32 / 2) ∷ []
+outcome choose ins outs = cond (eqb (at ins 0) 0) (at ins 2) (at ins 1) ∷ []
+outcome first_smallest ins outs = place_of (least ins) ins ∷ []
+outcome (shift k) ins outs = (at ins 0 / 2 ^ k) ∷ []
+outcome (constant k) ins outs = k ∷ []
+outcome unknown ins outs = []
 
 -- Values are stored at places one by one, stopping at the shorter list, later ones over earlier ones.
 unfoldable pub store_all : List ℕ → List ℕ → List ℕ → List ℕ
@@ -86,7 +86,7 @@ start_memory d b values = store_all b.inputs values (replicate (node_count d) 0)
 
 -- an operation's outputs, its inputs read from a memory
 abbrev pub outputs_of : Drawing → List ℕ → ℕ → List ℕ
-outputs_of d memory e = result (operation (at d.ops e)) (map (at memory) (sources_of d e)) (length (targets_of d e))
+outputs_of d memory e = outcome (operation (at d.ops e)) (map (at memory) (sources_of d e)) (length (targets_of d e))
 
 -- Each layer reads all its inputs first, then stores its operations' outputs in ascending operation order.
 unfoldable pub run_layer : Drawing → List ℕ → List ℕ → List ℕ

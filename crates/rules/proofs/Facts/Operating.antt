@@ -6,7 +6,7 @@ use Rattle.std.proofs.lemmas.List.{length-replicate}
 use Rattle.std.proofs.Math.ListN.{get_or-eq_default}
 use Rattle.std.proofs.lemmas.Bool.{lt-leb}
 use Rattle.rules.specs.Lists.{at}
-use Rattle.rules.specs.Evaluation.{Operation, copy, add, difference, smallest, largest, middle, choose, first_smallest, operation, place_of, most, unknown, least, constant, suits, singles, shift, result}
+use Rattle.rules.specs.Evaluation.{Operation, copy, add, difference, smallest, largest, middle, choose, first_smallest, operation, place_of, most, unknown, least, constant, suits, singles, shift, outcome}
 use Rattle.rules.proofs.Facts.Tests.{both, not_both}
 use Rattle.rules.proofs.Facts.Counts.{drop_more}
 use Rattle.rules.specs.Inner.Operating.{Suited}
@@ -127,7 +127,7 @@ some_in : (k ins : ℕ) (b : Bool) → eqb ins k && b ≡ true → k ≤ ins
 some_in k ins b e = omega (arith, eqb-true ins k (both (eqb ins k) b e).0)
 
 -- every output of an operation is the same number
-pub same_outputs : (o : Operation) (ins : List ℕ) (outs : ℕ) → suits o (length ins) outs ≡ true → result o ins outs ≡ replicate outs (at (result o ins 1) 0)
+pub same_outputs : (o : Operation) (ins : List ℕ) (outs : ℕ) → suits o (length ins) outs ≡ true → outcome o ins outs ≡ replicate outs (at (outcome o ins 1) 0)
 same_outputs copy ins outs e = refl
 same_outputs add ins outs e = rw (one_of (eqb (length ins) 2) outs e)
 same_outputs difference ins outs e = rw (one_of (eqb (length ins) 2) outs e)
@@ -141,8 +141,8 @@ same_outputs (constant k) ins outs e = rw (one_of (eqb (length ins) 0) outs e)
 same_outputs unknown ins outs e = not_both e
 
 -- so there are as many as there should be
-pub outputs_length : (o : Operation) (ins : List ℕ) (outs : ℕ) → suits o (length ins) outs ≡ true → length (result o ins outs) ≡ outs
-outputs_length o ins outs e = rw (same_outputs o ins outs e) (length-replicate outs (at (result o ins 1) 0))
+pub outputs_length : (o : Operation) (ins : List ℕ) (outs : ℕ) → suits o (length ins) outs ≡ true → length (outcome o ins outs) ≡ outs
+outputs_length o ins outs e = rw (same_outputs o ins outs e) (length-replicate outs (at (outcome o ins 1) 0))
 
 -- the fewest inputs of an operation
 abbrev pub fewest : Operation → ℕ

@@ -9,7 +9,7 @@ use Rattle.rules.specs.Lists.{◌∈◌, at, has, those, range, concat}
 use Rattle.rules.specs.Drawing.{Drawing, Accepted, op_count, targets_of, sources_of}
 use Rattle.rules.specs.Graph.{placed, unplaced, Kahn, Order}
 use Rattle.rules.specs.Analysis.{layer_of, marks, orders, op_next}
-use Rattle.rules.specs.Evaluation.{store_all, run_layer, suits_at, outputs_of, result, operation}
+use Rattle.rules.specs.Evaluation.{store_all, run_layer, suits_at, outputs_of, outcome, operation}
 use Rattle.rules.proofs.Facts.Running.{layer-∈, outputs_many}
 use Rattle.rules.specs.Inner.Running.{run_rest}
 use Rattle.rules.proofs.Facts.Chains.{snoc}
@@ -73,7 +73,7 @@ module _ (d : Drawing) (read : List ℕ) where
   unfolding run_each store_all
   each_rest [] memory s n r = refl
   each_rest (e ∷ es) memory s n r =
-      let o : outputs_of d memory e ≡ outputs_of d read e = ap (λ (l : List ℕ). result (operation (at d.ops e)) l (length (targets_of d e))) (map_same (at memory) (at read) (sources_of d e) (λ v m. r e v (Memᴰ.head refl) m)) in
+      let o : outputs_of d memory e ≡ outputs_of d read e = ap (λ (l : List ℕ). outcome (operation (at d.ops e)) l (length (targets_of d e))) (map_same (at memory) (at read) (sources_of d e) (λ v m. r e v (Memᴰ.head refl) m)) in
       rw o
       (each_rest es (store_all (targets_of d e) (outputs_of d read e) memory) (λ f m. s f (Memᴰ.tail m)) (λ f g v m k. n f g v (Memᴰ.tail m) (Memᴰ.tail k))
       (λ f v m k. store_other (targets_of d e) (outputs_of d read e) memory v (λ t. n f e v (Memᴰ.tail m) (Memᴰ.head refl) k t) ∙ r f v (Memᴰ.tail m) k)

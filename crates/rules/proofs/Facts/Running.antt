@@ -14,7 +14,7 @@ use Rattle.rules.specs.Inner.Running.{memory_at, Runs, outputs_at, Tables, memor
 use Rattle.rules.specs.Refusals.{workspace_need}
 use Rattle.rules.proofs.Facts.Placing.{sum-take_le, sum-all, sum-take, below_mono, below_le}
 use Rattle.rules.proofs.Facts.Evaluating.{back_over, store_append, store_length}
-use Rattle.rules.specs.Evaluation.{result, outputs_of, suits, operation, run_layer, run, store_all, suits_at}
+use Rattle.rules.specs.Evaluation.{outcome, outputs_of, suits, operation, run_layer, run, store_all, suits_at}
 use Rattle.rules.proofs.Facts.Member.{∈-part, ∈-range, concat_e, get_or-∈}
 use Rattle.rules.proofs.Facts.Operating.{outputs_length, same_outputs}
 use Rattle.rules.specs.Analysis.{orders, layer_offsets, layer_operations, layer_of, layers}
@@ -124,8 +124,8 @@ module _ (base n from label outs : ℕ) (places ws : List ℕ) (suited : suits (
   value_asks k e fits low few = rw (e, seg-length base n ws fits) ((low, few), (outs, suited))
 
   -- the part that `write` was lent holds the outputs
-  pub written_back : (k j v : ℕ) (ys : List ℕ) → k ≡ n → j ≡ outs → from + outs ≤ length ws → v ≡ at (result (operation label) (map (at (seg base k ws)) places) 1) 0
-      → ys ≡ replicate (length (seg from j ws)) v → back from j ys ws ≡ back from outs (result (operation label) (map (at (seg base n ws)) places) outs) ws
+  pub written_back : (k j v : ℕ) (ys : List ℕ) → k ≡ n → j ≡ outs → from + outs ≤ length ws → v ≡ at (outcome (operation label) (map (at (seg base k ws)) places) 1) 0
+      → ys ≡ replicate (length (seg from j ws)) v → back from j ys ws ≡ back from outs (outcome (operation label) (map (at (seg base n ws)) places) outs) ws
   written_back k j v ys e f fits p q =
       rw (f, q, seg-length from j ws (omega arith) ∙ f, p, e)
       (ap (λ (l : List ℕ). back from outs l ws)
@@ -204,9 +204,9 @@ module _ (d : Drawing) (ws : List ℕ) (r : Runs d ws) (e : ℕ) (h : e < op_cou
       }
 
   pub reads_one : (places : List ℕ) (from : ℕ) (ws' : List ℕ) → places ≡ sources_of d e → from ≡ outputs_at d e
-      → ws' ≡ back from outs (result (operation (at d.ops e)) (map (at M) places) outs) ws → Reads d e ws ws'
+      → ws' ≡ back from outs (outcome (operation (at d.ops e)) (map (at M) places) outs) ws → Reads d e ws ws'
   reads_one places from ws' p q c =
-      let same : back from outs (result (operation (at d.ops e)) (map (at M) places) outs) ws ≡ done = rw (p, q, ← targets_long d r.accepted e) in rw (c ∙ same) done_reads
+      let same : back from outs (outcome (operation (at d.ops e)) (map (at M) places) outs) ws ≡ done = rw (p, q, ← targets_long d r.accepted e) in rw (c ∙ same) done_reads
 
 -- a segment of a segment
 seg-seg : (a n b len : ℕ) (l : List ℕ) → b + len ≤ n → seg (a + b) len l ≡ seg b len (seg a n l)
