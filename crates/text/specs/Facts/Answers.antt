@@ -10,7 +10,7 @@ use Rattle.rules.specs.Program.{operation_lines, refused_line, answer, drawing_i
 use Rattle.rules.proofs.Facts.Output.{output_broken, output_whole}
 use Rattle.rules.proofs.Facts.OutputLong.{orders-length}
 use Rattle.text.specs.declared.Text.{Text}
-use Rattle.text.specs.declared.Text.TheVariants.{Read as TextRead, Refused as TextRefused}
+use Rattle.text.specs.declared.Text.TheVariants.{Refused as TextRefused}
 use Rattle.text.specs.Reading.{text_answer, ReadText, sections_of}
 use Rattle.text.specs.Writing.{operations}
 use Rattle.text.specs.Facts.Parts.{Held}

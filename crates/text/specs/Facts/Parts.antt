@@ -8,7 +8,7 @@ use Rattle.rules.specs.Text.{Sections, whole, broken, whole_text, limits}
 use Rattle.rules.proofs.Facts.Placing.{sum-take, sum-take_le, sum-all}
 use Rattle.rules.proofs.Facts.TextSections.{Fit, whole_fits}
 use Rattle.text.specs.declared.Text.{Text}
-use Rattle.text.specs.declared.Text.TheVariants.{Read as TextRead, Refused as TextRefused}
+use Rattle.text.specs.declared.Text.TheVariants.{Read as TextRead}
 use Rattle.text.specs.Reading.{lengths, finished, numbers_of, text_answer, ReadText, sections_of, most_numbers}
 use Rattle.text.specs.Facts.Sets.{sets_all}
 use Rattle.text.specs.Facts.Sections.{limits-sum}
