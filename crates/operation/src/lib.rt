@@ -9,6 +9,7 @@ ghost use Rattle.rules.specs.Evaluation.{operation, suits, least, most, place_of
 ghost use Rattle.rules.specs.Inner.Operating.{Suited, Placed};
 
 // Whether a label is known and its operation has so many inputs and outputs.
+#[tactic(auto, unfolding(rules::specs::Evaluation::operation))]
 pub fn suits(label: u32, ins: usize, outs: usize) -> bool
     ensures { result ≡ suits (operation label) ins outs }
 {
