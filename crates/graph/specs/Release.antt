@@ -1,10 +1,10 @@
 -- What `release` stores is what the walk asks for, and the queue has room for it.
-use Rattle.std.specs.Prelude.{ℕ, ◌+◌, ◌-◌, ◌<◌, ◌≤◌, max, Bool, true, false, List, ◌∷◌, ◌≡◌, refl, length, get_or, take, set, eqb}
+use Rattle.std.specs.Prelude.{ℕ, ◌+◌, ◌-◌, ◌<◌, max, Bool, true, false, List, ◌∷◌, ◌≡◌, refl, get_or, set, eqb}
 use Rattle.std.proofs.Common.{◌∙◌, arith, length-set, get_or-set_same, get_or-set_other, eqb-true}
 use Rattle.std.proofs.lemmas.List.{take-set-le}
 use Rattle.std.proofs.lemmas.Bool.{eqb-false}
-use Rattle.rules.specs.Inner.Walk.{Laid, Standing, Releasable, Released, degrees_of, queue_of}
-use Rattle.rules.specs.Inner.Words.{bit, positives}
+use Rattle.rules.specs.Inner.Walk.{Laid, Standing, Releasable, Released, degrees_of}
+use Rattle.rules.specs.Inner.Words.{bit}
 use Rattle.rules.proofs.Facts.Kahn.{low, some_left}
 use Rattle.rules.proofs.Facts.Segments.{seg-length, seg-set_low, seg-set_high}
 use Rattle.rules.proofs.Facts.Standing.{stayed, joined_up}
