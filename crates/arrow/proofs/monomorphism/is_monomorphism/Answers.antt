@@ -17,20 +17,20 @@ module _ (s : Start) where
 
 -- the maps are fine, and so many words are asked for
 module _ (c : After-larger-words) where
-  abbrev f₀-2 : Maps
-  f₀-2 = maps c.args.fw.now c.args.wd c.args.fx.now c.args.xd
+  abbrev f₁ : Maps
+  f₁ = maps c.args.fw.now c.args.wd c.args.fx.now c.args.xd
 
   abbrev words : ℕ
   words = c.larger-words.result
 
-  need : words ≡ maps_need f₀-2
+  need : words ≡ maps_need f₁
   need = c.larger-words.ensures
 
-  fine : maps_refusal f₀-2 ≡ 0
+  fine : maps_refusal f₁ ≡ 0
   fine = fine_none c.check_maps.result c.check_maps.ensures.refusal (cc)
 
-  accepted : AcceptedMaps f₀-2
-  accepted = (maps_iff f₀-2).0 fine
+  accepted : AcceptedMaps f₁
+  accepted = (maps_iff f₁).0 fine
 
 pub returns-then-ws-words : goal.returns-then-ws-words
 returns-then-ws-words c = mono_short (f₀ (goal.at.returns-then-ws-words c).Start) (ws₀ (goal.at.returns-then-ws-words c).Start) (words (goal.at.returns-then-ws-words c).After-larger-words) (need (goal.at.returns-then-ws-words c).After-larger-words) (fine (goal.at.returns-then-ws-words c).After-larger-words) c.if-ws-words.true

@@ -19,16 +19,16 @@ module _ (s : Start) where
 
 -- refused with none of 1 to 4
 module _ (c : In-Fine) where
-  abbrev d₀-2 : Drawing
-  d₀-2 = drawing c.args.dw.now c.args.dx.now c.args.dsl.now c.args.dsv.now c.args.dtl.now c.args.dtv.now
+  abbrev d₁ : Drawing
+  d₁ = drawing c.args.dw.now c.args.dx.now c.args.dsl.now c.args.dsv.now c.args.dtl.now c.args.dtv.now
 
-  abbrev f₀-2 : Maps
-  f₀-2 = maps c.args.fw.now c.args.wd c.args.fx.now c.args.xd
+  abbrev f₁ : Maps
+  f₁ = maps c.args.fw.now c.args.wd c.args.fx.now c.args.xd
 
-  abbrev c₀-2 : Drawing
-  c₀-2 = drawing c.args.cw.now c.args.cx.now c.args.csl.now c.args.csv.now c.args.ctl.now c.args.ctv.now
+  abbrev c₁ : Drawing
+  c₁ = drawing c.args.cw.now c.args.cx.now c.args.csl.now c.args.csv.now c.args.ctl.now c.args.ctv.now
 
-  fine : arrow_inputs_refusal c₀-2 d₀-2 f₀-2 ≡ 0
+  fine : arrow_inputs_refusal c₁ d₁ f₁ ≡ 0
   fine = fine_none c.check_arrow_inputs.result c.check_arrow_inputs.ensures (cc)
 
 pub naturality-requires : goal.naturality-requires
