@@ -7,7 +7,7 @@ pub mod tables;
 pub mod walk;
 
 // The stage of a path: inside the selection it takes unselected operations only, once it has left it takes all.
-#[derive(Drop)]
+#[derive(Clone, Copy)]
 pub enum Stage {
     Inside,
     Outside,
