@@ -1,11 +1,24 @@
 // The program: a text on standard input, what document 01 says of it on standard output.
 #![tactic(auto)]
 
-fn main() {
+ghost use Rattle.std.specs.Prelude.{IfSome, OnOk};
+ghost use Rattle.std.specs.Io.KnownBytes.{Appends};
+ghost use Rattle.rules.specs.Program.{output_of};
+
+use std::io::{self, Read, Write};
+
+// Reads a text and writes the answer to it. An input that is too long is read as far as shows it.
+fn run<R: Read, W: Write>(input: &mut R, output: &mut W) -> io::Result<()>
+    ensures { OnOk result (IfSome (R.remaining input.old) (λ text. Appends (W.contents output.old) (W.contents output.new) (output_of text))) }
+{
     // One byte more than a text may have.
     let mut text = [0u8; 65537];
-    let n = io::read_full(0, &mut text);
+    let n = reading::read_full(input, &mut text)?;
     let mut out = [0u8; 16384];
     let r = answer::answer(&text[..n], &mut out);
-    io::write_all(1, &out[..r]);
+    output.write_all(&out[..r])
+}
+
+fn main(rt: HostRuntime) -> io::Result<()> {
+    run(&mut rt.stdin(), &mut rt.stdout())
 }

@@ -19,9 +19,11 @@ mod lists;
 mod show;
 
 use lines::line_end;
+use std::io;
 
 // Makes the call and prints what it gives and leaves, in so much of this memory as the case lends.
 fn run_in(
+    rt: &impl Print,
     numbers: &[u32],
     words: &[u32],
     ends: &[u32],
@@ -29,7 +31,7 @@ fn run_in(
     second: &mut [u32],
     third: &mut [u32],
     workspace: &mut [u32],
-) {
+) -> io::Result<()> {
     let mut word: u32 = 777;
     let a = lists::room(numbers, 4, first.len());
     let b = lists::room(numbers, 5, second.len());
@@ -45,15 +47,15 @@ fn run_in(
         &mut workspace[..d],
         &mut word,
     );
-    show::answer(refusal, word);
-    show::words(&first[..a]);
-    show::words(&second[..b]);
-    show::words(&third[..c]);
-    show::workspace(&workspace[..d]);
+    show::answer(rt, refusal, word)?;
+    show::words(rt, &first[..a])?;
+    show::words(rt, &second[..b])?;
+    show::words(rt, &third[..c])?;
+    show::workspace(rt, &workspace[..d])
 }
 
 // Runs the case whose numbers these are. All memory that it lends holds 777.
-fn run(numbers: &[u32]) {
+fn run(rt: &impl Print, numbers: &[u32]) -> io::Result<()> {
     let mut words = [0u32; 32768];
     let mut ends = [0u32; 17];
     lists::lay_out(numbers, &mut words, &mut ends);
@@ -62,6 +64,7 @@ fn run(numbers: &[u32]) {
     let mut third = [777u32; 512];
     let mut workspace = [777u32; 4608];
     run_in(
+        rt,
         numbers,
         &words,
         &ends,
@@ -69,34 +72,34 @@ fn run(numbers: &[u32]) {
         &mut second,
         &mut third,
         &mut workspace,
-    );
+    )
 }
 
 // A line, with its end: a title or a case.
-fn run_line(line: &[u8]) {
+fn run_line(rt: &impl Print, line: &[u8]) -> io::Result<()> {
     if line.len() == 0 {
-        return;
+        return Ok(());
     }
     if line[0] == 35 {
-        io::write_all(1, line);
-        return;
+        return rt.write_all(line);
     }
     let mut numbers = [0u32; 8192];
     let count = lists::numbers(line, &mut numbers);
-    run(&numbers[..count]);
+    run(rt, &numbers[..count])
 }
 
-fn run_all(input: &[u8]) {
+fn run_all(rt: &impl Print, input: &[u8]) -> io::Result<()> {
     let mut at = 0;
     while at < input.len() {
         let end = line_end(input, at);
-        run_line(&input[at..end]);
+        run_line(rt, &input[at..end])?;
         at = end;
     }
+    Ok(())
 }
 
-fn main() {
+fn main(rt: HostRuntime) -> io::Result<()> {
     let mut input = [0u8; 262144];
-    let n = io::read_full(0, &mut input);
-    run_all(&input[..n]);
+    let n = reading::read_full(&mut rt.stdin(), &mut input)?;
+    run_all(&rt, &input[..n])
 }

@@ -1,24 +1,26 @@
 // What is printed of a case.
+use std::io;
 
-fn word(a: u32) {
-    io::print_decimal(1, a as u64);
+fn word(rt: &impl Print, a: u32) -> io::Result<()> {
+    rt.print(a)
 }
 
 // The refusal's number and the answer's word.
-pub(crate) fn answer(refusal: u32, answer: u32) {
-    word(refusal);
-    io::write_all(1, b" ");
-    word(answer);
+pub(crate) fn answer(rt: &impl Print, refusal: u32, answer: u32) -> io::Result<()> {
+    word(rt, refusal)?;
+    rt.write_all(b" ")?;
+    word(rt, answer)
 }
 
 // The words of a list, each behind a blank.
-pub(crate) fn words(list: &[u32]) {
+pub(crate) fn words(rt: &impl Print, list: &[u32]) -> io::Result<()> {
     let mut i = 0;
     while i < list.len() {
-        io::write_all(1, b" ");
-        word(list[i]);
+        rt.write_all(b" ")?;
+        word(rt, list[i])?;
         i += 1;
     }
+    Ok(())
 }
 
 // How many words stand before the first that is not 0.
@@ -46,10 +48,10 @@ fn kept(list: &[u32]) -> usize {
 }
 
 // How many words of the workspace are 0, and how many are as they were; the line's end.
-pub(crate) fn workspace(ws: &[u32]) {
-    io::write_all(1, b" ");
-    io::print_decimal(1, zeros(ws) as u64);
-    io::write_all(1, b" ");
-    io::print_decimal(1, kept(ws) as u64);
-    io::write_all(1, b"\n");
+pub(crate) fn workspace(rt: &impl Print, ws: &[u32]) -> io::Result<()> {
+    rt.write_all(b" ")?;
+    rt.print(zeros(ws))?;
+    rt.write_all(b" ")?;
+    rt.print(kept(ws))?;
+    rt.write_all(b"\n")
 }

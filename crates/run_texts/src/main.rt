@@ -4,9 +4,10 @@
 // words. That line is written again, and then what the answer is. A line's end stands behind each text.
 #![tactic(auto)]
 
-ghost use Rattle.std.specs.Prelude.{◌≤◌, ◌<◌, length};
+ghost use Rattle.std.specs.Prelude.{◌≤◌, ◌<◌, length, IfOk};
 
 use lines::{least, line_end};
+use std::io;
 
 // The number that five digits stand for, at most 65537; 0 where they are not there.
 fn number_at(input: &[u8], at: usize) -> usize
@@ -75,42 +76,43 @@ fn lengthen(bytes: &[u8], times: usize, text: &mut [u8]) -> usize
 }
 
 // Writes the answer to one text.
-fn run(bytes: &[u8], times: usize) {
+fn run(rt: &impl Print, bytes: &[u8], times: usize) -> io::Result<()> {
     let mut text = [0u8; 65537];
     let n = lengthen(bytes, times, &mut text);
     let mut out = [0u8; 16384];
     let r = answer::answer(&text[..n], &mut out);
-    io::write_all(1, &out[..r]);
+    rt.write_all(&out[..r])
 }
 
 // Runs the text whose line stands at a place; the place behind it.
-fn run_at(input: &[u8], at: usize) -> usize
+fn run_at(rt: &impl Print, input: &[u8], at: usize) -> io::Result<usize>
     requires { at < length input.now }
-    ensures { at < result }
+    ensures { IfOk result (λ next. at < next) }
 {
     let start = line_end(input, at);
-    io::write_all(1, &input[at..start]);
+    rt.write_all(&input[at..start])?;
     let count = number_at(input, at);
     if input.len() - start < count {
-        return input.len();
+        return Ok(input.len());
     }
     let end = start + count;
     if start - at < 6 {
-        return start;
+        return Ok(start);
     }
-    run(&input[start..end], number_at(input, at + 6));
-    end + 1
+    run(rt, &input[start..end], number_at(input, at + 6))?;
+    Ok(end + 1)
 }
 
-fn run_all(input: &[u8]) {
+fn run_all(rt: &impl Print, input: &[u8]) -> io::Result<()> {
     let mut at = 0;
     while at < input.len() {
-        at = run_at(input, at);
+        at = run_at(rt, input, at)?;
     }
+    Ok(())
 }
 
-fn main() {
+fn main(rt: HostRuntime) -> io::Result<()> {
     let mut input = [0u8; 65536];
-    let n = io::read_full(0, &mut input);
-    run_all(&input[..n]);
+    let n = reading::read_full(&mut rt.stdin(), &mut input)?;
+    run_all(&rt, &input[..n])
 }

@@ -4,23 +4,24 @@
 #![tactic(auto)]
 
 use rules::{Done, Refusal, Verdict, number_of};
+use std::io;
 
-fn put_number(n: u32) {
-    io::write_all(1, b" ");
-    io::print_decimal(1, n as u64);
+fn put_number(rt: &impl Print, n: u32) -> io::Result<()> {
+    rt.write_all(b" ")?;
+    rt.print(n)
 }
 
-fn put_refused(why: Refusal) {
-    io::write_all(1, b"refused");
-    put_number(number_of(why));
-    io::write_all(1, b"\n");
+fn put_refused(rt: &impl Print, why: Refusal) -> io::Result<()> {
+    rt.write_all(b"refused")?;
+    put_number(rt, number_of(why))?;
+    rt.write_all(b"\n")
 }
 
-fn put_yes(yes: bool) {
+fn put_yes(rt: &impl Print, yes: bool) -> io::Result<()> {
     if yes {
-        io::write_all(1, b" yes\n");
+        rt.write_all(b" yes\n")
     } else {
-        io::write_all(1, b" no\n");
+        rt.write_all(b" no\n")
     }
 }
 
@@ -29,48 +30,45 @@ fn shown(i: usize) -> bool {
     (i < 8) | (i % 1024 == 1023)
 }
 
-fn put_list(list: &[u32]) {
+fn put_list(rt: &impl Print, list: &[u32]) -> io::Result<()> {
     let mut i = 0;
     while i < list.len() {
         if shown(i) {
-            put_number(list[i]);
+            put_number(rt, list[i])?;
         }
         i += 1;
     }
-    io::write_all(1, b"\n");
+    rt.write_all(b"\n")
 }
 
-fn put_verdict(verdict: Verdict) {
+fn put_verdict(rt: &impl Print, verdict: Verdict) -> io::Result<()> {
     match verdict {
-        Verdict::Refused(why) => put_refused(why),
-        Verdict::Yes => {
-            io::write_all(1, b"acyclic yes\n");
-        }
-        Verdict::No => {
-            io::write_all(1, b"acyclic no\n");
-        }
+        Verdict::Refused(why) => put_refused(rt, why),
+        Verdict::Yes => rt.write_all(b"acyclic yes\n"),
+        Verdict::No => rt.write_all(b"acyclic no\n"),
     }
 }
 
 // The layers, what is handed back of a layer behind the last, and whether the offsets are sound.
-fn put_layers(operations: &[u32], offsets: &[u32]) {
-    io::write_all(1, b"offsets");
-    put_list(offsets);
+fn put_layers(rt: &impl Print, operations: &[u32], offsets: &[u32]) -> io::Result<()> {
+    rt.write_all(b"offsets")?;
+    put_list(rt, offsets)?;
     let mut i = 0;
     while i < operations.len() {
         if shown(i) {
-            io::write_all(1, b"layer");
-            put_list(layers::lookup::layer_at(operations, offsets, i));
+            rt.write_all(b"layer")?;
+            put_list(rt, layers::lookup::layer_at(operations, offsets, i))?;
         }
         i += 1;
     }
-    io::write_all(1, b"beyond");
-    put_list(layers::lookup::layer_at(operations, offsets, i));
-    io::write_all(1, b"sound");
-    put_yes(layers::lookup::offsets_sound(operations, offsets));
+    rt.write_all(b"beyond")?;
+    put_list(rt, layers::lookup::layer_at(operations, offsets, i))?;
+    rt.write_all(b"sound")?;
+    put_yes(rt, layers::lookup::offsets_sound(operations, offsets))
 }
 
 fn show_orders(
+    rt: &impl Print,
     w: &[u32],
     x: &[u32],
     sl: &[u32],
@@ -78,25 +76,26 @@ fn show_orders(
     tl: &[u32],
     tv: &[u32],
     ws: &mut [u32],
-) {
+) -> io::Result<()> {
     let m = x.len();
     if 4096 < m {
-        return;
+        return Ok(());
     }
     let mut orders = [0u32; 4096];
     let mut marks = [0u32; 4096];
     match layers::layer::layer(w, x, sl, sv, tl, tv, &mut orders, &mut marks, ws) {
-        Done::Faulty(why) => put_refused(why),
+        Done::Faulty(why) => put_refused(rt, why),
         Done::Fine => {
-            io::write_all(1, b"orders");
-            put_list(&orders[..m]);
-            io::write_all(1, b"marks");
-            put_list(&marks[..m]);
+            rt.write_all(b"orders")?;
+            put_list(rt, &orders[..m])?;
+            rt.write_all(b"marks")?;
+            put_list(rt, &marks[..m])
         }
     }
 }
 
 fn show_layers(
+    rt: &impl Print,
     w: &[u32],
     x: &[u32],
     sl: &[u32],
@@ -104,10 +103,10 @@ fn show_layers(
     tl: &[u32],
     tv: &[u32],
     ws: &mut [u32],
-) {
+) -> io::Result<()> {
     let m = x.len();
     if 4096 < m {
-        return;
+        return Ok(());
     }
     let mut ops = [0u32; 4096];
     let mut offsets = [0u32; 4097];
@@ -124,12 +123,13 @@ fn show_layers(
         &mut marks,
         ws,
     ) {
-        Done::Faulty(why) => put_refused(why),
-        Done::Fine => put_layers(&ops[..m], &offsets[..m + 1]),
+        Done::Faulty(why) => put_refused(rt, why),
+        Done::Fine => put_layers(rt, &ops[..m], &offsets[..m + 1]),
     }
 }
 
 fn show(
+    rt: &impl Print,
     title: &[u8],
     w: &[u32],
     x: &[u32],
@@ -138,11 +138,11 @@ fn show(
     tl: &[u32],
     tv: &[u32],
     ws: &mut [u32],
-) {
-    io::write_all(1, title);
-    put_verdict(graph::acyclic::is_acyclic(w, x, sl, sv, tl, tv, ws));
-    show_orders(w, x, sl, sv, tl, tv, ws);
-    show_layers(w, x, sl, sv, tl, tv, ws);
+) -> io::Result<()> {
+    rt.write_all(title)?;
+    put_verdict(rt, graph::acyclic::is_acyclic(w, x, sl, sv, tl, tv, ws))?;
+    show_orders(rt, w, x, sl, sv, tl, tv, ws)?;
+    show_layers(rt, w, x, sl, sv, tl, tv, ws)
 }
 
 // first, first + 1, and so on.
@@ -157,26 +157,27 @@ fn count_up(list: &mut [u32], first: u32) {
 }
 
 // Document 01's cases.
-fn nothing(ws: &mut [u32]) {
+fn nothing(rt: &impl Print, ws: &mut [u32]) -> io::Result<()> {
     let none = [0u32; 1];
     let e = &none[..0];
-    show(b"nothing\n", e, e, e, e, e, e, ws);
+    show(rt, b"nothing\n", e, e, e, e, e, e, ws)
 }
 
-fn no_nodes(ws: &mut [u32]) {
+fn no_nodes(rt: &impl Print, ws: &mut [u32]) -> io::Result<()> {
     let zero = [0u32; 1];
     let one = &zero[..];
     let e = &one[..0];
-    show(b"no nodes, one operation\n", e, one, one, e, one, e, ws);
+    show(rt, b"no nodes, one operation\n", e, one, one, e, one, e, ws)
 }
 
-fn cycle(ws: &mut [u32]) {
+fn cycle(rt: &impl Print, ws: &mut [u32]) -> io::Result<()> {
     let w = [0u32; 4];
     let sl = [1u32, 1, 1, 0];
     let sv = [0u32, 1, 1];
     let tl = [1u32; 4];
     let tv = [1u32, 0, 2, 3];
     show(
+        rt,
         b"0 to 1, 1 to 0, 1 to 2, none to 3\n",
         &w,
         &w,
@@ -185,31 +186,41 @@ fn cycle(ws: &mut [u32]) {
         &tl,
         &tv,
         ws,
-    );
+    )
 }
 
-fn twice(ws: &mut [u32]) {
+fn twice(rt: &impl Print, ws: &mut [u32]) -> io::Result<()> {
     let w = [0u32; 2];
     let sl = [0u32, 2];
     let sv = [0u32, 0];
     let tl = [1u32, 1];
     let tv = [0u32, 1];
-    show(b"none to 0, 0 and 0 to 1\n", &w, &w, &sl, &sv, &tl, &tv, ws);
+    show(
+        rt,
+        b"none to 0, 0 and 0 to 1\n",
+        &w,
+        &w,
+        &sl,
+        &sv,
+        &tl,
+        &tv,
+        ws,
+    )
 }
 
 // A ring of three with an operation before it, two behind it and two beside it.
-fn tails(ws: &mut [u32]) {
+fn tails(rt: &impl Print, ws: &mut [u32]) -> io::Result<()> {
     let w = [0u32; 6];
     let x = [0u32; 8];
     let sl = [1u32, 1, 1, 1, 1, 0, 1, 1];
     let sv = [0u32, 1, 2, 3, 3, 5, 4];
     let tl = [1u32, 1, 1, 1, 1, 1, 1, 0];
     let tv = [1u32, 2, 3, 1, 4, 5, 4];
-    show(b"a ring with tails\n", &w, &x, &sl, &sv, &tl, &tv, ws);
+    show(rt, b"a ring with tails\n", &w, &x, &sl, &sv, &tl, &tv, ws)
 }
 
 // As large as the limits allow.
-fn chain(ws: &mut [u32]) {
+fn chain(rt: &impl Print, ws: &mut [u32]) -> io::Result<()> {
     let w = [0u32; 4096];
     let mut sl = [1u32; 4096];
     sl[0] = 0;
@@ -218,6 +229,7 @@ fn chain(ws: &mut [u32]) {
     count_up(&mut nodes, 0);
     let all = &nodes[..];
     show(
+        rt,
         b"a chain of 4096\n",
         &w,
         &w,
@@ -226,10 +238,10 @@ fn chain(ws: &mut [u32]) {
         &tl,
         all,
         ws,
-    );
+    )
 }
 
-fn ring(ws: &mut [u32]) {
+fn ring(rt: &impl Print, ws: &mut [u32]) -> io::Result<()> {
     let w = [0u32; 4096];
     let ones = [1u32; 4096];
     let mut sv = [0u32; 4096];
@@ -240,6 +252,7 @@ fn ring(ws: &mut [u32]) {
     tv[4094] = 0;
     tv[4095] = 4095;
     show(
+        rt,
         b"a ring of 4095 and one behind it\n",
         &w,
         &w,
@@ -248,14 +261,15 @@ fn ring(ws: &mut [u32]) {
         &ones,
         &tv,
         ws,
-    );
+    )
 }
 
-fn hub(ws: &mut [u32]) {
+fn hub(rt: &impl Print, ws: &mut [u32]) -> io::Result<()> {
     let node = [0u32; 1];
     let x = [0u32; 4096];
     let ones = [1u32; 4096];
     show(
+        rt,
         b"4096 operations from one node to it\n",
         &node,
         &x,
@@ -264,15 +278,16 @@ fn hub(ws: &mut [u32]) {
         &ones,
         &x,
         ws,
-    );
+    )
 }
 
-fn full_hub(ws: &mut [u32]) {
+fn full_hub(rt: &impl Print, ws: &mut [u32]) -> io::Result<()> {
     let node = [0u32; 1];
     let x = [0u32; 4096];
     let fours = [4u32; 4096];
     let values = [0u32; 16384];
     show(
+        rt,
         b"the same, each listing it four times\n",
         &node,
         &x,
@@ -281,10 +296,10 @@ fn full_hub(ws: &mut [u32]) {
         &fours,
         &values,
         ws,
-    );
+    )
 }
 
-fn meeting(ws: &mut [u32]) {
+fn meeting(rt: &impl Print, ws: &mut [u32]) -> io::Result<()> {
     let node = [0u32; 1];
     let zeros = [0u32; 4096];
     let x = &zeros[..];
@@ -293,6 +308,7 @@ fn meeting(ws: &mut [u32]) {
     let mut tl = [0u32; 4096];
     array::fill(&mut tl, 2048, 1);
     show(
+        rt,
         b"2048 write a node, 2048 read it\n",
         &node,
         x,
@@ -301,19 +317,20 @@ fn meeting(ws: &mut [u32]) {
         &tl,
         &x[..2048],
         ws,
-    );
+    )
 }
 
 // Refused: 1, 2 and 3.
-fn refusals(ws: &mut [u32]) {
+fn refusals(rt: &impl Print, ws: &mut [u32]) -> io::Result<()> {
     let zeros = [0u32; 4097];
     let w = &zeros[..];
     let e = &w[..0];
     let one = &w[..1];
     let ones = [1u32; 1];
-    show(b"4097 nodes\n", w, e, e, e, e, e, ws);
-    show(b"a length too many\n", one, e, one, e, e, e, ws);
+    show(rt, b"4097 nodes\n", w, e, e, e, e, e, ws)?;
+    show(rt, b"a length too many\n", one, e, one, e, e, e, ws)?;
     show(
+        rt,
         b"a value that is no node\n",
         one,
         one,
@@ -322,40 +339,41 @@ fn refusals(ws: &mut [u32]) {
         one,
         e,
         ws,
-    );
+    )
 }
 
 // One node, one operation with neither source nor target: 24 words are needed.
-fn room(title: &[u8], words: usize, ws: &mut [u32]) {
+fn room(rt: &impl Print, title: &[u8], words: usize, ws: &mut [u32]) -> io::Result<()> {
     let zero = [0u32; 1];
     let one = &zero[..];
     let e = &one[..0];
     if words <= ws.len() {
-        show(title, one, one, one, e, one, e, &mut ws[..words]);
+        show(rt, title, one, one, one, e, one, e, &mut ws[..words])?;
     }
+    Ok(())
 }
 
-fn bad_offsets() {
+fn bad_offsets(rt: &impl Print) -> io::Result<()> {
     let operations = [0u32, 1, 2];
     let offsets = [0u32, 2, 1, 3];
-    io::write_all(1, b"offsets that fall\n");
-    put_layers(&operations, &offsets);
+    rt.write_all(b"offsets that fall\n")?;
+    put_layers(rt, &operations, &offsets)
 }
 
-fn main() {
+fn main(rt: HostRuntime) -> io::Result<()> {
     let mut ws = [7u32; 131080];
-    nothing(&mut ws);
-    no_nodes(&mut ws);
-    cycle(&mut ws);
-    twice(&mut ws);
-    tails(&mut ws);
-    chain(&mut ws);
-    ring(&mut ws);
-    hub(&mut ws);
-    full_hub(&mut ws);
-    meeting(&mut ws);
-    refusals(&mut ws);
-    room(b"24 words of workspace\n", 24, &mut ws);
-    room(b"23 words of workspace\n", 23, &mut ws);
-    bad_offsets();
+    nothing(&rt, &mut ws)?;
+    no_nodes(&rt, &mut ws)?;
+    cycle(&rt, &mut ws)?;
+    twice(&rt, &mut ws)?;
+    tails(&rt, &mut ws)?;
+    chain(&rt, &mut ws)?;
+    ring(&rt, &mut ws)?;
+    hub(&rt, &mut ws)?;
+    full_hub(&rt, &mut ws)?;
+    meeting(&rt, &mut ws)?;
+    refusals(&rt, &mut ws)?;
+    room(&rt, b"24 words of workspace\n", 24, &mut ws)?;
+    room(&rt, b"23 words of workspace\n", 23, &mut ws)?;
+    bad_offsets(&rt)
 }
