@@ -1,4 +1,4 @@
-//! Links the archive that `rt staticlib exports` writes.
+//! Links the archive that `bindings/archive` writes.
 //!
 //! TIWELZAM_LIB names the folder that holds `libexports.a`. Where it is not given, the folder is
 //! `target/staticlib` of the repository; if there is no archive yet and `rt` is there, it is made.
@@ -43,17 +43,17 @@ fn own() -> PathBuf {
 }
 
 fn make(repository: &Path) {
-    let made = Command::new("rt").args(["staticlib", "exports"]).current_dir(repository).output();
+    let made = Command::new(repository.join("bindings/archive")).output();
     match made {
         Ok(output) if output.status.success() => {}
         Ok(output) => fail(&format!(
-            "rt staticlib exports failed:\n{}{}",
+            "bindings/archive failed:\n{}{}",
             String::from_utf8_lossy(&output.stdout),
             String::from_utf8_lossy(&output.stderr)
         )),
         Err(_) => fail(
-            "there is no target/staticlib/libexports.a, and no rt to make it: install the Rattle toolchain and run \
-             `rt staticlib exports` in the repository, or let TIWELZAM_LIB name the folder of the archive",
+            "there is no target/staticlib/libexports.a, and no bindings/archive to make it: let TIWELZAM_LIB name the \
+             folder of the archive",
         ),
     }
 }

@@ -1,4 +1,5 @@
-// The C face: every public call as tiwelzam_NAME, thin over the proved call (but for the layer lookup) and with the same promise.
+// The C face: every public call as tiwelzam_NAME, thin over the proved call (but for the layer lookup) and with the same promise. The crate
+// exports_c hands these functions to C.
 //
 // A slice is a pointer and a length. Each returns document 01's refusal number, 0 for none. A yes or no, or a size, is written into one
 // word that the caller lends. Parameters stand in this order: first drawing, second drawing (each w, x, sl, sv, tl, tv: node labels,
@@ -55,8 +56,7 @@ fn measure(answer: Size, word: &mut u32) -> u32
 }
 
 // 1, 2, 3 of a drawing.
-#[unsafe(no_mangle)]
-pub extern "C" fn tiwelzam_check_drawing(
+pub fn tiwelzam_check_drawing(
     w: &[u32],
     x: &[u32],
     sl: &[u32],
@@ -70,16 +70,14 @@ pub extern "C" fn tiwelzam_check_drawing(
 }
 
 // 1 and 4 of two maps.
-#[unsafe(no_mangle)]
-pub extern "C" fn tiwelzam_check_maps(fw: &[u32], wd: u32, fx: &[u32], xd: u32) -> u32
+pub fn tiwelzam_check_maps(fw: &[u32], wd: u32, fx: &[u32], xd: u32) -> u32
     ensures { DoneFace (CheckMaps (maps fw.now wd fx.now xd)) result }
 {
     done(hypergraph::check::check_maps(fw, wd, fx, xd))
 }
 
 // 1, 2, 3 of a drawing and 12 of its boundary.
-#[unsafe(no_mangle)]
-pub extern "C" fn tiwelzam_check_boundary(
+pub fn tiwelzam_check_boundary(
     w: &[u32],
     x: &[u32],
     sl: &[u32],
@@ -95,8 +93,7 @@ pub extern "C" fn tiwelzam_check_boundary(
 }
 
 // For each node the operations that list it as a source: n lengths, S values.
-#[unsafe(no_mangle)]
-pub extern "C" fn tiwelzam_source_converse(
+pub fn tiwelzam_source_converse(
     w: &[u32],
     x: &[u32],
     sl: &[u32],
@@ -113,8 +110,7 @@ pub extern "C" fn tiwelzam_source_converse(
 }
 
 // For each node the operations that list it as a target: n lengths, T values.
-#[unsafe(no_mangle)]
-pub extern "C" fn tiwelzam_target_converse(
+pub fn tiwelzam_target_converse(
     w: &[u32],
     x: &[u32],
     sl: &[u32],
@@ -131,8 +127,7 @@ pub extern "C" fn tiwelzam_target_converse(
 }
 
 // The nodes that each node leads to: n lengths, and as many values as node_adjacency_size says.
-#[unsafe(no_mangle)]
-pub extern "C" fn tiwelzam_node_adjacency(
+pub fn tiwelzam_node_adjacency(
     w: &[u32],
     x: &[u32],
     sl: &[u32],
@@ -149,8 +144,7 @@ pub extern "C" fn tiwelzam_node_adjacency(
 }
 
 // The operations that each operation leads to: m lengths, and as many values as operation_adjacency_size says.
-#[unsafe(no_mangle)]
-pub extern "C" fn tiwelzam_operation_adjacency(
+pub fn tiwelzam_operation_adjacency(
     w: &[u32],
     x: &[u32],
     sl: &[u32],
@@ -167,8 +161,7 @@ pub extern "C" fn tiwelzam_operation_adjacency(
 }
 
 // How many values node_adjacency writes.
-#[unsafe(no_mangle)]
-pub extern "C" fn tiwelzam_node_adjacency_size(
+pub fn tiwelzam_node_adjacency_size(
     w: &[u32],
     x: &[u32],
     sl: &[u32],
@@ -186,8 +179,7 @@ pub extern "C" fn tiwelzam_node_adjacency_size(
 }
 
 // How many values operation_adjacency writes.
-#[unsafe(no_mangle)]
-pub extern "C" fn tiwelzam_operation_adjacency_size(
+pub fn tiwelzam_operation_adjacency_size(
     w: &[u32],
     x: &[u32],
     sl: &[u32],
@@ -205,8 +197,7 @@ pub extern "C" fn tiwelzam_operation_adjacency_size(
 }
 
 // Whether no node lies on a directed cycle.
-#[unsafe(no_mangle)]
-pub extern "C" fn tiwelzam_is_acyclic(
+pub fn tiwelzam_is_acyclic(
     w: &[u32],
     x: &[u32],
     sl: &[u32],
@@ -222,8 +213,7 @@ pub extern "C" fn tiwelzam_is_acyclic(
 }
 
 // The operations' orders and marks: m each.
-#[unsafe(no_mangle)]
-pub extern "C" fn tiwelzam_layer(
+pub fn tiwelzam_layer(
     w: &[u32],
     x: &[u32],
     sl: &[u32],
@@ -240,8 +230,7 @@ pub extern "C" fn tiwelzam_layer(
 }
 
 // The operations layer by layer: m operations, m + 1 offsets, m marks.
-#[unsafe(no_mangle)]
-pub extern "C" fn tiwelzam_layered_operations(
+pub fn tiwelzam_layered_operations(
     w: &[u32],
     x: &[u32],
     sl: &[u32],
@@ -259,8 +248,7 @@ pub extern "C" fn tiwelzam_layered_operations(
 }
 
 // Whether two maps from the first drawing into the second are natural: 5 to 10 if not, 1 to 4 for lists that are no drawings or maps.
-#[unsafe(no_mangle)]
-pub extern "C" fn tiwelzam_validate(
+pub fn tiwelzam_validate(
     cw: &[u32],
     cx: &[u32],
     csl: &[u32],
@@ -286,8 +274,7 @@ pub extern "C" fn tiwelzam_validate(
 }
 
 // Whether neither map has an entry twice.
-#[unsafe(no_mangle)]
-pub extern "C" fn tiwelzam_is_monomorphism(
+pub fn tiwelzam_is_monomorphism(
     fw: &[u32],
     wd: u32,
     fx: &[u32],
@@ -304,8 +291,7 @@ pub extern "C" fn tiwelzam_is_monomorphism(
 }
 
 // Whether the group that two maps select is convex.
-#[unsafe(no_mangle)]
-pub extern "C" fn tiwelzam_is_convex_subgraph(
+pub fn tiwelzam_is_convex_subgraph(
     cw: &[u32],
     cx: &[u32],
     csl: &[u32],
@@ -336,8 +322,7 @@ pub extern "C" fn tiwelzam_is_convex_subgraph(
 }
 
 // The values at the output list.
-#[unsafe(no_mangle)]
-pub extern "C" fn tiwelzam_eval(
+pub fn tiwelzam_eval(
     w: &[u32],
     x: &[u32],
     sl: &[u32],
@@ -356,8 +341,7 @@ pub extern "C" fn tiwelzam_eval(
 }
 
 // Whether offsets are sound: one more than the operations, first 0, never falling, last their number.
-#[unsafe(no_mangle)]
-pub extern "C" fn tiwelzam_offsets_sound(operations: &[u32], offsets: &[u32], word: &mut u32) -> u32
+pub fn tiwelzam_offsets_sound(operations: &[u32], offsets: &[u32], word: &mut u32) -> u32
     ensures { SoundFace operations.now offsets.now word.new result }
 {
     if layers::lookup::offsets_sound(operations, offsets) {
@@ -369,8 +353,7 @@ pub extern "C" fn tiwelzam_offsets_sound(operations: &[u32], offsets: &[u32], wo
 }
 
 // Layer i as a part of the operations: where it starts and how long it is, since C has no part to hand back.
-#[unsafe(no_mangle)]
-pub extern "C" fn tiwelzam_layer_at(
+pub fn tiwelzam_layer_at(
     operations: &[u32],
     offsets: &[u32],
     i: usize,
