@@ -1,4 +1,4 @@
-use Rattle.std.proofs.Common.{◌≤◌, ◌<◌, length, arith}
+use Rattle.std.proofs.Common.{arith}
 use Rattle.lines.specs.Facts.{line-within}
 use Rattle.replay.proofs.run_all.Goals as goal
 
