@@ -1,8 +1,9 @@
 // For programs that read an input into a room of fixed length.
 #![tactic(auto)]
 
-ghost use Rattle.std.specs.Prelude.{◌≤◌, ◌<◌, length, take, IfOk};
+ghost use Rattle.std.specs.Prelude.{◌≤◌, ◌<◌, length, take, IfOk, OnErr};
 ghost use Rattle.std.specs.Io.KnownBytes.{Consumes, IsAtEnd};
+ghost use Rattle.reading.specs.Front.{ConsumesFront};
 
 use std::io::{self, Read};
 
@@ -10,6 +11,7 @@ use std::io::{self, Read};
 pub fn read_full<R: Read>(input: &mut R, room: &mut [u8]) -> io::Result<usize>
     ensures within { IfOk result (λ n. n ≤ length room.new) }
     ensures bytes { IfOk result (λ n. Consumes (R.remaining input.old) (R.remaining input.new) (take n room.new)) }
+    ensures err { OnErr result (ConsumesFront (R.remaining input.old) (R.remaining input.new) room.new) }
     ensures end { IfOk result (λ n. n < length room.new → IsAtEnd (R.remaining input.new)) }
 {
     let mut done = 0;
