@@ -130,6 +130,7 @@ fn put_sections(counts: &[u32], numbers: &[u32], out: &mut [u8]) -> usize
 }
 
 // What is written for a text, in a room that holds it.
+#[tactic(auto, using(rules::proofs::Facts::Output::output_over))]
 fn put_output(text: &[u8], out: &mut [u8]) -> usize
     requires { most_written ≤ length out.old }
     ensures { Put (output_of text.now) 0 out.old out.new result }

@@ -1,7 +1,6 @@
 use Rattle.std.proofs.Common.{ℕ, ◌+◌, ◌≤◌, ◌≡◌, refl, ap, List, arith, length}
 use Rattle.rules.specs.Program.{output_of, refused_line, most_written}
 use Rattle.rules.proofs.Facts.Writing.{refused_length}
-use Rattle.rules.proofs.Facts.Output.{output_over}
 use Rattle.rules.proofs.Facts.OutputLong.{output_long}
 use Rattle.text.specs.Facts.Parts.{Held}
 use Rattle.text.specs.Facts.Answers.{read_refused, read_answer}
@@ -27,13 +26,10 @@ module _ (c : In-Read) where
   read = read_held c.args.text.now c.read_text.ensures refl refl (cc)
 
   written : output_of c.args.text.now ≡ answer_in (sections_of counts numbers)
-  written = read_answer c.args.text.now c.if-text-gt65536.false read
+  written = read_answer c.args.text.now (omega arith) read
 
 pub put_refused-requires : goal.put_refused-requires
 put_refused-requires c = refused-fits _ c.requires
-
-pub returns-then-text-gt65536 : goal.returns-then-text-gt65536
-returns-then-text-gt65536 c = put_same (output_over c.args.text.now c.if-text-gt65536.true) c.put_refused.ensures
 
 pub put_refused-requires-in-Refused : goal.put_refused-requires-in-Refused
 put_refused-requires-in-Refused c = refused-fits _ c.requires
@@ -45,7 +41,7 @@ pub put_sections-requires-clause-numbers_in_bounds : goal.put_sections-requires-
 put_sections-requires-clause-numbers_in_bounds c = omega (arith, ap length (written (goal.at.put_sections-requires-clause-numbers_in_bounds c).In-Read), output_long c.args.text.now)
 
 pub returns-in-Refused : goal.returns-in-Refused
-returns-in-Refused c = put_same (read_refused c.args.text.now c.if-text-gt65536.false c.in-Refused.why c.read_text.ensures (cc)) c.put_refused-in-Refused.ensures
+returns-in-Refused c = put_same (read_refused c.args.text.now (omega arith) c.in-Refused.why c.read_text.ensures (cc)) c.put_refused-in-Refused.ensures
 
 pub returns-in-Read : goal.returns-in-Read
 returns-in-Read c = put_same (written (goal.at.returns-in-Read c).In-Read) c.put_sections.ensures
