@@ -178,6 +178,7 @@ fn write_operations(
 }
 
 // For each node the nodes that it leads to: n lengths, and the values of all. Lent a workspace of W words or more.
+#[tactic(auto, using(crate::proofs::Rooms::room_laws))]
 pub fn node_adjacency(
     w: &[u32],
     x: &[u32],
@@ -205,6 +206,7 @@ pub fn node_adjacency(
 }
 
 // For each operation the operations that it leads to: m lengths, and the values of all. Lent a workspace of W words or more.
+#[tactic(auto, using(crate::proofs::Rooms::room_laws))]
 pub fn operation_adjacency(
     w: &[u32],
     x: &[u32],

@@ -34,6 +34,7 @@ fn values_below(w: &[u32], x: &[u32], sl: &[u32], sv: &[u32], tl: &[u32], tv: &[
 }
 
 // 2, then 3.
+#[tactic(auto, unfolding(rules::specs::Inner::Checks::lists_refusal))]
 pub fn check_lists(w: &[u32], x: &[u32], sl: &[u32], sv: &[u32], tl: &[u32], tv: &[u32]) -> Done
     ensures { refusal_of result ≡ lists_refusal (drawing w.now x.now sl.now sv.now tl.now tv.now) }
 {
