@@ -1,4 +1,3 @@
 pub mod Promise
 pub mod Determined
 pub mod Answering
-pub mod Facts

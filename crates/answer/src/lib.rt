@@ -2,147 +2,109 @@
 #![tactic(auto)]
 
 ghost use Rattle.std.specs.Prelude.{◌≡◌, ◌+◌, ◌≤◌, length};
-ghost use Rattle.rules.specs.Drawing.{drawing, boundary};
+ghost use Rattle.rules.specs.Lent.{drawing_of, boundary_of};
 ghost use Rattle.rules.specs.Calls.{boundary_refusal, layer_refusal};
 ghost use Rattle.rules.specs.Text.{most_counted};
 ghost use Rattle.rules.specs.Program.{answer as answer_of, operation_lines, output_of, most_words, most_written};
 ghost use Rattle.text.specs.Reading.{sections_of};
-ghost use Rattle.text.specs.Writing.{Put};
+ghost use Rattle.text.specs.Writing.{HasRoom, Wrote};
 ghost use Rattle.answer.specs.Promise.{Answered};
 ghost use Rattle.answer.specs.Answering.{Small, Nine, answer_in, closing};
 
 use eval::eval;
+use hypergraph::check::check_boundary;
 use layers::layer::layer;
-use rules::{Done, Refusal};
-use text::Text;
+use rules::{Boundary, Drawing, IndexedCoproduct, Refusal};
 use text::reader::{read_text, section};
-use text::writer::{put_operations, put_refused, put_values};
+use text::writer::Writer;
 
 // The operations' header and lines, of a drawing that `layer` does not refuse.
-fn put_layers(
-    w: &[u32],
-    x: &[u32],
-    sl: &[u32],
-    sv: &[u32],
-    tl: &[u32],
-    tv: &[u32],
-    out: &mut [u8],
-) -> usize
-    requires most_words_value { (layer_refusal (drawing w.now x.now sl.now sv.now tl.now tv.now) most_counted most_counted most_words ≡ 0) × (length x.now ≤ most_counted) }
-    requires tv_in_bounds { length (operation_lines (drawing w.now x.now sl.now sv.now tl.now tv.now)) ≤ length out.old }
-    ensures { Put (operation_lines (drawing w.now x.now sl.now sv.now tl.now tv.now)) 0 out.old out.new result }
+fn write_layers(d: &Drawing, writer: &mut Writer)
+    requires taken { (layer_refusal (drawing_of d.now) most_counted most_counted most_words ≡ 0) × (length d.now.ops.now ≤ most_counted) }
+    requires room { HasRoom (operation_lines (drawing_of d.now)) writer.old }
+    ensures { Wrote (operation_lines (drawing_of d.now)) writer.old writer.new }
 {
     let mut orders = [0u32; 256];
     let mut marks = [0u32; 256];
     let mut ws = [0u32; 8200];
-    // It answers `Fine`: the drawing was checked before, and these rooms hold what every drawing of a text needs.
-    layer(w, x, sl, sv, tl, tv, &mut orders, &mut marks, &mut ws);
-    let m = x.len();
-    put_operations(out, 0, &orders[..m], &marks[..m])
+    // It answers Ok: the drawing was checked before, and these rooms hold what every drawing of a text needs.
+    let _ = layer(d, &mut orders, &mut marks, &mut ws);
+    let m = d.ops.len();
+    writer.put_operations(&orders[..m], &marks[..m]);
 }
 
 // Behind them: the values' header and lines, or `refused` with 13 or 14.
-fn put_closing(
-    w: &[u32],
-    x: &[u32],
-    sl: &[u32],
-    sv: &[u32],
-    tl: &[u32],
-    tv: &[u32],
-    inputs: &[u32],
-    outputs: &[u32],
-    values: &[u32],
-    out: &mut [u8],
-    at: usize,
-) -> usize
-    requires outputs_value { boundary_refusal (drawing w.now x.now sl.now sv.now tl.now tv.now) (boundary inputs.now outputs.now) ≡ 0 }
-    requires small { Small (drawing w.now x.now sl.now sv.now tl.now tv.now) (boundary inputs.now outputs.now) values.now }
-    requires values_in_bounds { at + length (closing (drawing w.now x.now sl.now sv.now tl.now tv.now) (boundary inputs.now outputs.now) values.now) ≤ length out.old }
-    ensures { Put (closing (drawing w.now x.now sl.now sv.now tl.now tv.now) (boundary inputs.now outputs.now) values.now) at out.old out.new result }
+fn write_closing(d: &Drawing, b: &Boundary, values: &[u32], writer: &mut Writer)
+    requires passed { boundary_refusal (drawing_of d.now) (boundary_of b.now) ≡ 0 }
+    requires small { Small (drawing_of d.now) (boundary_of b.now) values.now }
+    requires room { HasRoom (closing (drawing_of d.now) (boundary_of b.now) values.now) writer.old }
+    ensures { Wrote (closing (drawing_of d.now) (boundary_of b.now) values.now) writer.old writer.new }
 {
     let mut results = [0u32; 256];
     let mut ws = [0u32; 8200];
-    match eval(
-        w,
-        x,
-        sl,
-        sv,
-        tl,
-        tv,
-        inputs,
-        outputs,
-        values,
-        &mut results,
-        &mut ws,
-    ) {
-        Done::Faulty(why) => put_refused(out, at, why),
-        Done::Fine => {
-            let k = outputs.len();
-            put_values(out, at, &results[..k])
+    match eval(d, b, values, &mut results, &mut ws) {
+        Err(fault) => writer.put_refused(fault),
+        Ok(()) => {
+            let k = b.outputs.len();
+            writer.put_values(&results[..k]);
         }
     }
 }
 
 // What is written for a drawing, a boundary and input values.
-fn put_answer(
-    w: &[u32],
-    x: &[u32],
-    sl: &[u32],
-    sv: &[u32],
-    tl: &[u32],
-    tv: &[u32],
-    inputs: &[u32],
-    outputs: &[u32],
-    values: &[u32],
-    out: &mut [u8],
-) -> usize
-    requires small { Small (drawing w.now x.now sl.now sv.now tl.now tv.now) (boundary inputs.now outputs.now) values.now }
-    requires values_in_bounds { length (answer_of (drawing w.now x.now sl.now sv.now tl.now tv.now) (boundary inputs.now outputs.now) values.now) ≤ length out.old }
-    ensures { Put (answer_of (drawing w.now x.now sl.now sv.now tl.now tv.now) (boundary inputs.now outputs.now) values.now) 0 out.old out.new result }
+fn write_answer(d: &Drawing, b: &Boundary, values: &[u32], writer: &mut Writer)
+    requires small { Small (drawing_of d.now) (boundary_of b.now) values.now }
+    requires room { HasRoom (answer_of (drawing_of d.now) (boundary_of b.now) values.now) writer.old }
+    ensures { Wrote (answer_of (drawing_of d.now) (boundary_of b.now) values.now) writer.old writer.new }
 {
-    match hypergraph::check::check_boundary(w, x, sl, sv, tl, tv, inputs, outputs) {
-        Done::Faulty(why) => put_refused(out, 0, why),
-        Done::Fine => {
-            let at = put_layers(w, x, sl, sv, tl, tv, out);
-            put_closing(w, x, sl, sv, tl, tv, inputs, outputs, values, out, at)
+    match check_boundary(d, b) {
+        Err(why) => writer.put_refused(why),
+        Ok(()) => {
+            write_layers(d, writer);
+            write_closing(d, b, values, writer);
         }
     }
 }
 
 // What is written for the nine sections of a text, given as their counts and their numbers.
-fn put_sections(counts: &[u32], numbers: &[u32], out: &mut [u8]) -> usize
+fn write_sections(counts: &[u32], numbers: &[u32], writer: &mut Writer)
     requires nine { Nine counts.now numbers.now }
-    requires numbers_in_bounds { length (answer_in (sections_of counts.now numbers.now)) ≤ length out.old }
-    ensures { Put (answer_in (sections_of counts.now numbers.now)) 0 out.old out.new result }
+    requires room { HasRoom (answer_in (sections_of counts.now numbers.now)) writer.old }
+    ensures { Wrote (answer_in (sections_of counts.now numbers.now)) writer.old writer.new }
 {
-    put_answer(
-        section(counts, numbers, 0),
-        section(counts, numbers, 1),
-        section(counts, numbers, 2),
-        section(counts, numbers, 3),
-        section(counts, numbers, 4),
-        section(counts, numbers, 5),
-        section(counts, numbers, 6),
-        section(counts, numbers, 7),
-        section(counts, numbers, 8),
-        out,
-    )
+    let d = Drawing {
+        nodes: section(counts, numbers, 0),
+        ops: section(counts, numbers, 1),
+        sources: IndexedCoproduct {
+            lengths: section(counts, numbers, 2),
+            values: section(counts, numbers, 3),
+        },
+        targets: IndexedCoproduct {
+            lengths: section(counts, numbers, 4),
+            values: section(counts, numbers, 5),
+        },
+    };
+    let b = Boundary {
+        inputs: section(counts, numbers, 6),
+        outputs: section(counts, numbers, 7),
+    };
+    write_answer(&d, &b, section(counts, numbers, 8), writer);
 }
 
-// What is written for a text, in a room that holds it.
+// What is written for a text, by a writer with room for it.
 #[tactic(auto, using(rules::proofs::Facts::Output::output_over))]
-fn put_output(text: &[u8], out: &mut [u8]) -> usize
-    requires { most_written ≤ length out.old }
-    ensures { Put (output_of text.now) 0 out.old out.new result }
+fn write_output(text: &[u8], writer: &mut Writer)
+    requires { writer.old.at + most_written ≤ length writer.old.out.now }
+    ensures { Wrote (output_of text.now) writer.old writer.new }
 {
     if 65536 < text.len() {
-        return put_refused(out, 0, Refusal::OverLimit);
+        return writer.put_refused(Refusal::OverLimit);
     }
     let mut counts = [0u32; 9];
     let mut numbers = [0u32; 3840];
     match read_text(text, &mut counts, &mut numbers) {
-        Text::Refused(why) => put_refused(out, 0, why),
-        Text::Read => put_sections(&counts, &numbers, out),
+        Err(reason) => writer.put_refused(reason),
+        Ok(()) => write_sections(&counts, &numbers, writer),
     }
 }
 
@@ -154,5 +116,7 @@ pub fn answer(text: &[u8], out: &mut [u8]) -> usize
     if out.len() < 16384 {
         return 0;
     }
-    put_output(text, out)
+    let mut writer = Writer { out, at: 0 };
+    write_output(text, &mut writer);
+    writer.at
 }

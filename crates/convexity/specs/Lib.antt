@@ -1,1 +1,3 @@
 pub mod Stages
+pub mod Tables
+pub mod Walk

@@ -1,94 +1,71 @@
 // The two tables of the walk. The full one is the incidence table, whose rows of nodes are the converse of the sources.
 // The other one has these rows without the selected operations.
-ghost use Rattle.std.specs.Prelude.{[], ◌∷◌, ◌≡◌, ℕ, ◌+◌, ◌-◌, ◌<◌, ◌≤◌, length, take};
-ghost use Rattle.rules.specs.Drawing.{Accepted, drawing, most_items};
-ghost use Rattle.rules.specs.Lists.{◌∈◌, seg};
-ghost use Rattle.rules.specs.Refusals.{workspace_need};
+ghost use Rattle.std.specs.Prelude.{◌≡◌, ℕ, ◌+◌, ◌-◌, ◌<◌, ◌≤◌, ◌^◌, length};
+ghost use Rattle.convexity.specs.Tables.{Kept, Filtered, TwoTables, unflagged, other_length};
+ghost use Rattle.rules.specs.Drawing.{most_items};
+ghost use Rattle.rules.specs.Lent.{drawing_of};
+ghost use Rattle.rules.specs.Lists.{◌∈◌};
+ghost use Rattle.rules.specs.Inner.Incidence.{items};
+ghost use Rattle.rules.specs.Inner.IncidenceTable.{table_length};
 ghost use Rattle.rules.specs.Inner.Table.{Table};
-ghost use Rattle.rules.specs.Inner.Walk.{Laid};
-ghost use Rattle.rules.specs.Inner.Selected.{SelectedOps, Flags, Kept, Roomy, Filtered, TwoTables};
+ghost use Rattle.rules.specs.Inner.Selected.{SelectedOps, Flags};
 
-// An item is put at word q, unless its flag, one of those from word `flags` on, is set. Gives the word behind.
-fn keep(ws: &mut [u32], flags: usize, q: usize, item: u32) -> usize
-    requires { (q < flags) × (flags + item < length ws.old) }
-    ensures { Kept flags q (item ∷ []) ws.old result ws.new }
-{
-    if ws[flags + item as usize] == 0 {
-        ws[q] = item;
-        return q + 1;
-    }
-    q
-}
+use hypergraph::incidence::Rows;
+use rules::Checked;
 
-// The same for each item of the row from word `from` to `end`.
-fn keep_row(ws: &mut [u32], flags: usize, from: usize, end: usize, q: usize) -> usize
-    requires from_le_end { (from ≤ end) × (end ≤ q) × (q + (end - from) ≤ flags) × (flags ≤ length ws.old) }
-    requires by_index { (j : ℕ) → j ∈ seg from (end - from) ws.old → flags + j < length ws.old }
-    ensures { Kept flags q (seg from (end - from) ws.old) ws.old result ws.new }
+// The items of a row are put into a table from word q on, but those whose flag is set. Gives the word behind.
+fn keep_row(row: &[u32], flags: &[u32], table: &mut [u32], q: usize) -> usize
+    requires by_index { (j : ℕ) → j ∈ row.now → j < length flags.now }
+    requires room { q + length row.now ≤ length table.old }
+    ensures { Kept flags.now q row.now table.old result table.new }
 {
-    let mut p = from;
     let mut to = q;
-    while p < end {
-        let item = ws[p];
-        to = keep(ws, flags, to, item);
-        p += 1;
+    for item in row {
+        if flags[*item as usize] == 0 {
+            table[to] = *item;
+            to += 1;
+        }
     }
     to
 }
 
-// The table of n rows from word b on: the first n rows of the full table, without the items that are flagged from word c on.
-fn unselected(ws: &mut [u32], n: usize, k: usize, b: usize, c: usize)
-    requires laid { Laid k c ws.old }
-    requires table { Table k (take b ws.old) × Roomy n k b c }
-    ensures { Filtered n k b c ws.old ws.new }
+// The table of n rows: those of the full table, without the items that are flagged.
+fn without_flagged(full: Rows, flags: &[u32], n: usize, table: &mut [u32])
+    requires full { Table full.count full.words.now × (n ≤ full.count) × (length full.words.now < 2 ^ 31) }
+    requires room { (length flags.now ≡ full.count) × (n + 1 + (length full.words.now - (full.count + 1)) ≤ length table.old) }
+    ensures { Filtered (unflagged flags.now full.entry.count full.entry.words.now) n table.new }
 {
-    let first = b + n + 1;
-    ws[b] = 0;
+    let first = n + 1;
+    table[0] = 0;
     let mut q = first;
-    let mut v = 0;
-    while v < n {
-        let from = k + 1 + ws[v] as usize;
-        let end = k + 1 + ws[v + 1] as usize;
-        q = keep_row(ws, c, from, end, q);
-        v += 1;
-        ws[b + v] = (q - first) as u32;
+    for v in 0..n {
+        q = keep_row(full.row(v), flags, table, q);
+        table[v + 1] = (q - first) as u32;
     }
 }
 
-// The flags of n nodes and of the operations behind them: those of the selected operations, fx, are not 0.
-fn select(flags: &mut [u32], n: usize, fx: &[u32])
-    requires n_in_bounds { (n ≤ length flags.old) × (length fx.now ≤ most_items) }
-    requires by_index { (e : ℕ) → e ∈ fx.now → n + e < length flags.old }
-    ensures { Flags n fx.now flags.new }
+// The flags of n nodes and of the operations behind them: those of the selected operations, x, are not 0.
+fn select(flags: &mut [u32], n: usize, x: &[u32])
+    requires n_in_bounds { (n ≤ length flags.old) × (length x.now ≤ most_items) }
+    requires by_index { (e : ℕ) → e ∈ x.now → n + e < length flags.old }
+    ensures { Flags n x.now flags.new }
 {
-    let k = flags.len();
-    let m = k - n;
-    array::fill(flags, k, 0);
-    array::count_values(&mut flags[n..k], m, fx);
+    flags.fill(0);
+    array::count_values(&mut flags[n..], x);
 }
 
-// Both tables, in the first words of a workspace. The operations fx are selected.
-pub(crate) fn tables(
-    ws: &mut [u32],
-    w: &[u32],
-    x: &[u32],
-    sl: &[u32],
-    sv: &[u32],
-    tl: &[u32],
-    tv: &[u32],
-    fx: &[u32],
-)
-    requires accepted { Accepted (drawing w.now x.now sl.now sv.now tl.now tv.now) }
-    requires selected_ops { SelectedOps (drawing w.now x.now sl.now sv.now tl.now tv.now) fx.now }
-    requires ws_len { length ws.old ≡ workspace_need (drawing w.now x.now sl.now sv.now tl.now tv.now) }
-    ensures { TwoTables (drawing w.now x.now sl.now sv.now tl.now tv.now) fx.now ws.new }
+// Both tables. The operations x are selected, and flagged in the lent words.
+pub(crate) fn tables(d: &Checked, x: &[u32], full: &mut [u32], other: &mut [u32], flags: &mut [u32])
+    requires selected_ops { SelectedOps (drawing_of d.now.drawing) x.now }
+    requires room { (length full.old ≡ table_length (drawing_of d.now.drawing)) × (length other.old ≡ other_length (drawing_of d.now.drawing)) × (length flags.old ≡ items (drawing_of d.now.drawing)) }
+    ensures { TwoTables (drawing_of d.now.drawing) x.now full.new other.new }
 {
-    let n = w.len();
-    let k = n + x.len();
-    let b = k + 1 + sv.len() + tv.len();
-    let c = b + (n + 1 + (sv.len() + tv.len()));
-    let end = c + k;
-    hypergraph::incidence::incidence(&mut ws[..b], w, x, sl, sv, tl, tv);
-    select(&mut ws[c..end], n, fx);
-    unselected(ws, n, k, b, c);
+    let n = d.drawing.nodes.len();
+    hypergraph::incidence::incidence(full, d);
+    select(flags, n, x);
+    let full = Rows {
+        count: flags.len(),
+        words: full,
+    };
+    without_flagged(full, flags, n, other);
 }

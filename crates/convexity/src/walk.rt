@@ -1,127 +1,64 @@
 // The walk in two stages over two plain tables. It knows nothing of drawings.
 //
-// The workspace holds the full table of k rows in its first b words, the table of n rows without the selected operations up to
-// word c, and behind them, for k items: marks and a queue. A mark is 0, or one more than the item from which an item was first reached.
-ghost use Rattle.std.specs.Prelude.{[], ◌∷◌, ◌≡◌, ℕ, ◌<◌, ◌≤◌, length};
+// Each item has a mark: 0, or one more than the item from which it was first reached. Reached items stand in a queue, of so many words too.
+ghost use Rattle.std.specs.Prelude.{◌≡◌, ℕ, ◌<◌, ◌^◌, length};
 ghost use Rattle.convexity.specs.Stages.{rows_of, table_of};
+ghost use Rattle.convexity.specs.Walk.{Held, Followed, Pair};
 ghost use Rattle.rules.specs.Lists.{◌∈◌};
 ghost use Rattle.rules.specs.Inner.Table.{successors};
-ghost use Rattle.rules.specs.Inner.Walk.{Laid};
-ghost use Rattle.rules.specs.Inner.Search.{Row, Pair, Held, Followed, Searching, Found, full_table, other_table, marks_at};
+ghost use Rattle.rules.specs.Inner.Search.{Row, Found};
 
 use crate::Stage;
-
-// Row i of a table of k rows.
-fn row(table: &[u32], k: usize, i: usize) -> &[u32]
-    requires { Row k table.now i }
-    ensures { result.now ≡ successors k table.now i }
-{
-    let from = k + 1 + table[i] as usize;
-    let end = k + 1 + table[i + 1] as usize;
-    &table[from..end]
-}
+use hypergraph::incidence::Rows;
 
 // What item i leads to: the stage picks the table that supplies the row.
-fn leaving<'a>(
-    stage: Stage,
-    unselected: &'a [u32],
-    full: &'a [u32],
-    n: usize,
-    k: usize,
-    i: usize,
-) -> &'a [u32]
-    requires { Row (rows_of stage n k) (table_of stage unselected.now full.now) i }
-    ensures { result.now ≡ successors (rows_of stage n k) (table_of stage unselected.now full.now) i }
+// Stays: what may not change: the part comes from one of two lent tables, and the stage picks which (docs/DECISIONS.md names the form).
+fn leaving<'a>(stage: Stage, unselected: Rows<'a>, full: Rows<'a>, i: usize) -> &'a [u32]
+    requires { Row (rows_of stage unselected.count full.count) (table_of stage unselected.words.now full.words.now) i }
+    ensures { result.now ≡ successors (rows_of stage unselected.entry.count full.entry.count) (table_of stage unselected.entry.words.now full.entry.words.now) i }
 {
     match stage {
-        Stage::Inside => row(unselected, n, i),
-        Stage::Outside => row(full, k, i),
+        Stage::Inside => unselected.row(i),
+        Stage::Outside => full.row(i),
     }
 }
 
-// The same, with the tables where they stand in a workspace.
-fn leads(ws: &[u32], n: usize, k: usize, b: usize, c: usize, stage: Stage, i: usize) -> &[u32]
-    requires b_le_c { (b ≤ c) × (c ≤ length ws.now) }
-    requires row { Row (rows_of stage n k) (table_of stage (other_table b c ws.now) (full_table b ws.now)) i }
-    ensures { result.now ≡ successors (rows_of stage n k) (table_of stage (other_table b c ws.now) (full_table b ws.now)) i }
+// Each item of a row is reached. Where it is new, it gets a mark and joins the queue. Gives the queue's length.
+fn follow(row: &[u32], via: u32, marks: &mut [u32], queue: &mut [u32], tail: usize) -> usize
+    requires held { Held tail marks.old queue.old × (0 < via) }
+    requires by_index { (j : ℕ) → j ∈ row.now → j < length queue.old }
+    ensures { Followed row.now tail marks.old queue.old result marks.new queue.new }
 {
-    leaving(stage, &ws[b..c], &ws[..b], n, k, i)
-}
-
-// Item j is reached. Where it is new, it gets a mark and joins the queue. Gives the queue's length.
-fn reach(ws: &mut [u32], k: usize, c: usize, tail: usize, j: u32, via: u32) -> usize
-    requires laid { Laid k c ws.old }
-    requires held { Held k c tail ws.old × (j < k) × (0 < via) }
-    ensures { Followed k c tail (j ∷ []) ws.old result ws.new }
-{
-    let mark = c + j as usize;
-    if ws[mark] == 0 {
-        ws[mark] = via;
-        ws[c + k + tail] = j;
-        return tail + 1;
-    }
-    tail
-}
-
-// Each item of a row is reached.
-fn follow(
-    ws: &mut [u32],
-    n: usize,
-    k: usize,
-    b: usize,
-    c: usize,
-    stage: Stage,
-    i: usize,
-    tail: usize,
-) -> usize
-    requires laid { Laid k c ws.old }
-    requires b_le_c { (b ≤ c) × (i < k) × Held k c tail ws.old }
-    requires row { Row (rows_of stage n k) (table_of stage (other_table b c ws.old) (full_table b ws.old)) i }
-    requires by_index { (j : ℕ) → j ∈ successors (rows_of stage n k) (table_of stage (other_table b c ws.old) (full_table b ws.old)) i → j < k }
-    ensures { Followed k c tail (successors (rows_of stage n k) (table_of stage (other_table b c ws.old) (full_table b ws.old)) i) ws.old result ws.new }
-{
-    let via = i as u32 + 1;
-    let count = leads(&ws[..], n, k, b, c, stage, i).len();
     let mut len = tail;
-    let mut p = 0;
-    while p < count {
-        let j = leads(&ws[..], n, k, b, c, stage, i)[p];
-        len = reach(ws, k, c, len, j, via);
-        p += 1;
+    for item in row {
+        let mark = *item as usize;
+        if marks[mark] == 0 {
+            marks[mark] = via;
+            queue[len] = *item;
+            len += 1;
+        }
     }
     len
 }
 
-// The first steps, from each item of w.
-fn seed(ws: &mut [u32], n: usize, k: usize, b: usize, c: usize, w: &[u32]) -> usize
-    requires laid { Laid k c ws.old }
-    requires pair { Pair n k b c ws.old × (n ≤ k) × ((v : ℕ) → v ∈ w.now → v < n) }
-    requires searching { Searching n k b c w.now ws.old 0 0 0 ws.old }
-    ensures { Searching n k b c w.now ws.old (length w.now) 0 result ws.new }
-{
-    let mut tail = 0;
-    let mut q = 0;
-    while q < w.len() {
-        let v = w[q] as usize;
-        tail = follow(ws, n, k, b, c, Stage::Inside, v, tail);
-        q += 1;
-    }
-    tail
-}
-
 // Marks every item that can be reached from w by a first step inside and any number of later ones outside.
-pub(crate) fn walk(ws: &mut [u32], n: usize, k: usize, b: usize, c: usize, w: &[u32])
-    requires laid { Laid k c ws.old }
-    requires pair { Pair n k b c ws.old × (n ≤ k) × ((v : ℕ) → v ∈ w.now → v < n) }
-    ensures { Found (successors k (full_table b ws.old)) (successors n (other_table b c ws.old)) w.now (marks_at k c ws.new) }
+pub(crate) fn walk(unselected: Rows, full: Rows, w: &[u32], marks: &mut [u32], queue: &mut [u32])
+    requires pair { Pair unselected.count unselected.words.now full.count full.words.now × ((v : ℕ) → v ∈ w.now → v < unselected.count) }
+    requires room { (length marks.old ≡ full.count) × (length queue.old ≡ full.count) × (full.count < 2 ^ 31) }
+    ensures { Found (successors full.entry.count full.entry.words.now) (successors unselected.entry.count unselected.entry.words.now) w.now marks.new }
 {
-    let queue = c + k;
-    array::fill(&mut ws[c..queue], k, 0);
-    let mut tail = seed(ws, n, k, b, c, w);
+    marks.fill(0);
+    let mut tail = 0;
+    for v in w {
+        let row = leaving(Stage::Inside, unselected, full, *v as usize);
+        tail = follow(row, v + 1, marks, queue, tail);
+    }
     let mut head = 0;
+    // Stays: the new form is no plainer (the queue grows while it is worked off, so its end is not known when the loop begins).
     while head < tail {
-        let i = ws[queue + head] as usize;
-        tail = follow(ws, n, k, b, c, Stage::Outside, i, tail);
+        let i = queue[head];
+        let row = leaving(Stage::Outside, unselected, full, i as usize);
+        tail = follow(row, i + 1, marks, queue, tail);
         head += 1;
     }
 }

@@ -1,4 +1,4 @@
-// The program: a text on standard input, what document 01 says of it on standard output.
+// The program: a text on standard input, the answer to it on standard output.
 #![tactic(auto)]
 
 ghost use Rattle.std.specs.Prelude.{IfSome, OnOk};
@@ -15,8 +15,8 @@ fn run<R: Read, W: Write>(input: &mut R, output: &mut W) -> io::Result<()>
     let mut text = [0u8; 65537];
     let n = reading::read_full(input, &mut text)?;
     let mut out = [0u8; 16384];
-    let r = answer::answer(&text[..n], &mut out);
-    output.write_all(&out[..r])
+    let written = answer::answer(&text[..n], &mut out);
+    output.write_all(&out[..written])
 }
 
 fn main(rt: HostRuntime) -> io::Result<()> {

@@ -1,57 +1,91 @@
 // The C face: every public call as tiwelzam_NAME, thin over the proved call (but for the layer lookup) and with the same promise. The crate
 // exports_c hands these functions to C.
 //
-// A slice is a pointer and a length. Each returns document 01's refusal number, 0 for none. A yes or no, or a size, is written into one
+// A slice is a pointer and a length. Each returns the refusal's number, 0 for none. A yes or no, or a size, is written into one
 // word that the caller lends. Parameters stand in this order: first drawing, second drawing (each w, x, sl, sv, tl, tv: node labels,
 // operation labels, source lengths, source values, target lengths, target values), map w and its declared target, map x and its, boundary
-// inputs, boundary outputs, input values, outputs in document 01's order, workspace, the answer's word.
+// inputs, boundary outputs, input values, outputs in the order that the call names them, workspace, the answer's word.
+//
+// Stays: the C interface: a slice is two words in C, and the names and the order of the parameters are what C programs link.
 #![tactic(auto)]
 
 ghost use Rattle.std.specs.Prelude.{◌≡◌};
 ghost use Rattle.rules.specs.Drawing.{drawing, maps, boundary};
+ghost use Rattle.rules.specs.Lent.{drawing_of, maps_of};
 ghost use Rattle.rules.specs.Refusals.{refusal_of};
 ghost use Rattle.rules.specs.Faces.{DoneFace, VerdictFace, SizeFace, SoundFace, LayerAtFace, Told, Measured};
 ghost use Rattle.rules.specs.Promises.{CheckDrawing, CheckMaps, CheckBoundary, SourceConverse, TargetConverse, NodeAdjacency, OperationAdjacency, NodeAdjacencySize, OperationAdjacencySize, IsAcyclic, Layer, LayeredOperations, Validate, IsMonomorphism, IsConvexSubgraph, Eval};
 
-use rules::{Done, Size, Verdict, number_of};
+use rules::{Boundary, Drawing, IndexedCoproduct, Map, Maps, Refusal};
 
 // The number of an answer that only refuses or does not.
-fn done(answer: Done) -> u32
+fn done(answer: Result<(), Refusal>) -> u32
     ensures { result ≡ refusal_of answer }
 {
     match answer {
-        Done::Fine => 0,
-        Done::Faulty(why) => number_of(why),
+        Ok(()) => 0,
+        Err(why) => why.into(),
     }
 }
 
 // The number of a verdict; a yes or no goes into the lent word.
-fn tell(answer: Verdict, word: &mut u32) -> u32
+fn tell(answer: Result<bool, Refusal>, word: &mut u32) -> u32
     ensures { Told answer word.old word.new result }
 {
-    match answer {
-        Verdict::Yes => {
-            *word = 1;
-            0
-        }
-        Verdict::No => {
-            *word = 0;
-            0
-        }
-        Verdict::Refused(why) => number_of(why),
-    }
+    measure(answer.map(u32::from), word)
 }
 
 // The number of a size; the size goes into the lent word.
-fn measure(answer: Size, word: &mut u32) -> u32
+fn measure(answer: Result<u32, Refusal>, word: &mut u32) -> u32
     ensures { Measured answer word.old word.new result }
 {
     match answer {
-        Size::Entries(size) => {
+        Ok(size) => {
             *word = size;
             0
         }
-        Size::Unsized(why) => number_of(why),
+        Err(why) => why.into(),
+    }
+}
+
+// The drawing of six lists, as C lends them.
+fn drawing_from<'a>(
+    w: &'a [u32],
+    x: &'a [u32],
+    sl: &'a [u32],
+    sv: &'a [u32],
+    tl: &'a [u32],
+    tv: &'a [u32],
+) -> Drawing<'a>
+    ensures { drawing_of result ≡ drawing w.now x.now sl.now sv.now tl.now tv.now }
+{
+    Drawing {
+        nodes: w,
+        ops: x,
+        sources: IndexedCoproduct {
+            lengths: sl,
+            values: sv,
+        },
+        targets: IndexedCoproduct {
+            lengths: tl,
+            values: tv,
+        },
+    }
+}
+
+// The two maps, each of its entries and its declared target.
+fn maps_from<'a>(fw: &'a [u32], wd: u32, fx: &'a [u32], xd: u32) -> Maps<'a>
+    ensures { maps_of result ≡ maps fw.now wd fx.now xd }
+{
+    Maps {
+        w: Map {
+            entries: fw,
+            target: wd,
+        },
+        x: Map {
+            entries: fx,
+            target: xd,
+        },
     }
 }
 
@@ -66,14 +100,16 @@ pub fn tiwelzam_check_drawing(
 ) -> u32
     ensures { DoneFace (CheckDrawing (drawing w.now x.now sl.now sv.now tl.now tv.now)) result }
 {
-    done(hypergraph::check::check_drawing(w, x, sl, sv, tl, tv))
+    let d = drawing_from(w, x, sl, sv, tl, tv);
+    done(hypergraph::check::check_drawing(&d))
 }
 
 // 1 and 4 of two maps.
 pub fn tiwelzam_check_maps(fw: &[u32], wd: u32, fx: &[u32], xd: u32) -> u32
     ensures { DoneFace (CheckMaps (maps fw.now wd fx.now xd)) result }
 {
-    done(hypergraph::check::check_maps(fw, wd, fx, xd))
+    let f = maps_from(fw, wd, fx, xd);
+    done(hypergraph::check::check_maps(&f))
 }
 
 // 1, 2, 3 of a drawing and 12 of its boundary.
@@ -89,7 +125,9 @@ pub fn tiwelzam_check_boundary(
 ) -> u32
     ensures { DoneFace (CheckBoundary (drawing w.now x.now sl.now sv.now tl.now tv.now) (boundary inputs.now outputs.now)) result }
 {
-    done(hypergraph::check::check_boundary(w, x, sl, sv, tl, tv, inputs, outputs))
+    let d = drawing_from(w, x, sl, sv, tl, tv);
+    let b = Boundary { inputs, outputs };
+    done(hypergraph::check::check_boundary(&d, &b))
 }
 
 // For each node the operations that list it as a source: n lengths, S values.
@@ -106,7 +144,8 @@ pub fn tiwelzam_source_converse(
 ) -> u32
     ensures { DoneFace (SourceConverse (drawing w.now x.now sl.now sv.now tl.now tv.now) lens.old lens.new vals.old vals.new ws.old ws.new) result }
 {
-    done(hypergraph::converse::source_converse(w, x, sl, sv, tl, tv, lens, vals, ws))
+    let d = drawing_from(w, x, sl, sv, tl, tv);
+    done(hypergraph::converse::source_converse(&d, lens, vals, ws))
 }
 
 // For each node the operations that list it as a target: n lengths, T values.
@@ -123,7 +162,8 @@ pub fn tiwelzam_target_converse(
 ) -> u32
     ensures { DoneFace (TargetConverse (drawing w.now x.now sl.now sv.now tl.now tv.now) lens.old lens.new vals.old vals.new ws.old ws.new) result }
 {
-    done(hypergraph::converse::target_converse(w, x, sl, sv, tl, tv, lens, vals, ws))
+    let d = drawing_from(w, x, sl, sv, tl, tv);
+    done(hypergraph::converse::target_converse(&d, lens, vals, ws))
 }
 
 // The nodes that each node leads to: n lengths, and as many values as node_adjacency_size says.
@@ -140,7 +180,8 @@ pub fn tiwelzam_node_adjacency(
 ) -> u32
     ensures { DoneFace (NodeAdjacency (drawing w.now x.now sl.now sv.now tl.now tv.now) lens.old lens.new vals.old vals.new ws.old ws.new) result }
 {
-    done(hypergraph::adjacency::node_adjacency(w, x, sl, sv, tl, tv, lens, vals, ws))
+    let d = drawing_from(w, x, sl, sv, tl, tv);
+    done(hypergraph::adjacency::node_adjacency(&d, lens, vals, ws))
 }
 
 // The operations that each operation leads to: m lengths, and as many values as operation_adjacency_size says.
@@ -157,7 +198,8 @@ pub fn tiwelzam_operation_adjacency(
 ) -> u32
     ensures { DoneFace (OperationAdjacency (drawing w.now x.now sl.now sv.now tl.now tv.now) lens.old lens.new vals.old vals.new ws.old ws.new) result }
 {
-    done(hypergraph::adjacency::operation_adjacency(w, x, sl, sv, tl, tv, lens, vals, ws))
+    let d = drawing_from(w, x, sl, sv, tl, tv);
+    done(hypergraph::adjacency::operation_adjacency(&d, lens, vals, ws))
 }
 
 // How many values node_adjacency writes.
@@ -172,10 +214,8 @@ pub fn tiwelzam_node_adjacency_size(
 ) -> u32
     ensures { SizeFace (NodeAdjacencySize (drawing w.now x.now sl.now sv.now tl.now tv.now)) word.old word.new result }
 {
-    measure(
-        hypergraph::adjacency::node_adjacency_size(w, x, sl, sv, tl, tv),
-        word,
-    )
+    let d = drawing_from(w, x, sl, sv, tl, tv);
+    measure(hypergraph::adjacency::node_adjacency_size(&d), word)
 }
 
 // How many values operation_adjacency writes.
@@ -190,10 +230,8 @@ pub fn tiwelzam_operation_adjacency_size(
 ) -> u32
     ensures { SizeFace (OperationAdjacencySize (drawing w.now x.now sl.now sv.now tl.now tv.now)) word.old word.new result }
 {
-    measure(
-        hypergraph::adjacency::operation_adjacency_size(w, x, sl, sv, tl, tv),
-        word,
-    )
+    let d = drawing_from(w, x, sl, sv, tl, tv);
+    measure(hypergraph::adjacency::operation_adjacency_size(&d), word)
 }
 
 // Whether no node lies on a directed cycle.
@@ -209,7 +247,8 @@ pub fn tiwelzam_is_acyclic(
 ) -> u32
     ensures { VerdictFace (IsAcyclic (drawing w.now x.now sl.now sv.now tl.now tv.now) ws.old ws.new) word.old word.new result }
 {
-    tell(graph::acyclic::is_acyclic(w, x, sl, sv, tl, tv, ws), word)
+    let d = drawing_from(w, x, sl, sv, tl, tv);
+    tell(graph::acyclic::is_acyclic(&d, ws), word)
 }
 
 // The operations' orders and marks: m each.
@@ -226,7 +265,8 @@ pub fn tiwelzam_layer(
 ) -> u32
     ensures { DoneFace (Layer (drawing w.now x.now sl.now sv.now tl.now tv.now) orders.old orders.new marks.old marks.new ws.old ws.new) result }
 {
-    done(layers::layer::layer(w, x, sl, sv, tl, tv, orders, marks, ws))
+    let d = drawing_from(w, x, sl, sv, tl, tv);
+    done(layers::layer::layer(&d, orders, marks, ws))
 }
 
 // The operations layer by layer: m operations, m + 1 offsets, m marks.
@@ -244,7 +284,8 @@ pub fn tiwelzam_layered_operations(
 ) -> u32
     ensures { DoneFace (LayeredOperations (drawing w.now x.now sl.now sv.now tl.now tv.now) operations.old operations.new offsets.old offsets.new marks.old marks.new ws.old ws.new) result }
 {
-    done(layers::layer::layered_operations(w, x, sl, sv, tl, tv, operations, offsets, marks, ws))
+    let d = drawing_from(w, x, sl, sv, tl, tv);
+    done(layers::layer::layered_operations(&d, operations, offsets, marks, ws))
 }
 
 // Whether two maps from the first drawing into the second are natural: 5 to 10 if not, 1 to 4 for lists that are no drawings or maps.
@@ -268,9 +309,10 @@ pub fn tiwelzam_validate(
 ) -> u32
     ensures { DoneFace (Validate (drawing cw.now cx.now csl.now csv.now ctl.now ctv.now) (drawing dw.now dx.now dsl.now dsv.now dtl.now dtv.now) (maps fw.now wd fx.now xd)) result }
 {
-    done(arrow::validate::validate(
-        cw, cx, csl, csv, ctl, ctv, dw, dx, dsl, dsv, dtl, dtv, fw, wd, fx, xd,
-    ))
+    let c = drawing_from(cw, cx, csl, csv, ctl, ctv);
+    let d = drawing_from(dw, dx, dsl, dsv, dtl, dtv);
+    let f = maps_from(fw, wd, fx, xd);
+    done(arrow::validate::validate(&c, &d, &f))
 }
 
 // Whether neither map has an entry twice.
@@ -284,10 +326,8 @@ pub fn tiwelzam_is_monomorphism(
 ) -> u32
     ensures { VerdictFace (IsMonomorphism (maps fw.now wd fx.now xd) ws.old ws.new) word.old word.new result }
 {
-    tell(
-        arrow::monomorphism::is_monomorphism(fw, wd, fx, xd, ws),
-        word,
-    )
+    let f = maps_from(fw, wd, fx, xd);
+    tell(arrow::monomorphism::is_monomorphism(&f, ws), word)
 }
 
 // Whether the group that two maps select is convex.
@@ -313,12 +353,10 @@ pub fn tiwelzam_is_convex_subgraph(
 ) -> u32
     ensures { VerdictFace (IsConvexSubgraph (drawing cw.now cx.now csl.now csv.now ctl.now ctv.now) (drawing dw.now dx.now dsl.now dsv.now dtl.now dtv.now) (maps fw.now wd fx.now xd) ws.old ws.new) word.old word.new result }
 {
-    tell(
-        convexity::convex::is_convex_subgraph(
-            cw, cx, csl, csv, ctl, ctv, dw, dx, dsl, dsv, dtl, dtv, fw, wd, fx, xd, ws,
-        ),
-        word,
-    )
+    let c = drawing_from(cw, cx, csl, csv, ctl, ctv);
+    let d = drawing_from(dw, dx, dsl, dsv, dtl, dtv);
+    let f = maps_from(fw, wd, fx, xd);
+    tell(convexity::convex::is_convex_subgraph(&c, &d, &f, ws), word)
 }
 
 // The values at the output list.
@@ -337,18 +375,16 @@ pub fn tiwelzam_eval(
 ) -> u32
     ensures { DoneFace (Eval (drawing w.now x.now sl.now sv.now tl.now tv.now) (boundary inputs.now outputs.now) values.now out.old out.new ws.old ws.new) result }
 {
-    done(eval::eval(w, x, sl, sv, tl, tv, inputs, outputs, values, out, ws))
+    let d = drawing_from(w, x, sl, sv, tl, tv);
+    let b = Boundary { inputs, outputs };
+    done(eval::eval(&d, &b, values, out, ws))
 }
 
 // Whether offsets are sound: one more than the operations, first 0, never falling, last their number.
 pub fn tiwelzam_offsets_sound(operations: &[u32], offsets: &[u32], word: &mut u32) -> u32
     ensures { SoundFace operations.now offsets.now word.new result }
 {
-    if layers::lookup::offsets_sound(operations, offsets) {
-        *word = 1;
-    } else {
-        *word = 0;
-    }
+    *word = u32::from(layers::lookup::offsets_sound(operations, offsets));
     0
 }
 

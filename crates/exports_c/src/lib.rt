@@ -1,4 +1,5 @@
 // What C links: each function of `exports` under its own name, and with the same promise.
+// Stays: the C interface: a static library is linked by no crate, and `replay` and the benchmarks' crates call the functions of `exports`.
 #![tactic(auto)]
 
 ghost use Rattle.rules.specs.Drawing.{drawing, maps, boundary};

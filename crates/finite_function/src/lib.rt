@@ -15,6 +15,7 @@ pub fn compose(out: &mut [u32], f: &[u32], g: &[u32])
 }
 
 // Whether a map carries labels: those of its entries are the given ones, in order and as many.
+#[tactic(auto, using(rules::proofs::Facts::SameLists::same_list_sym))]
 pub fn carries(labels: &[u32], entries: &[u32], list: &[u32]) -> bool
     requires { (u : ℕ) → u ∈ entries.now → u < length labels.now }
     ensures { result ≡ same_list (map (at labels.now) entries.now) list.now }
@@ -29,10 +30,8 @@ pub fn is_injective(entries: &[u32], seen: &mut [u32]) -> bool
     requires entries_len_bound { length entries.now < 2 ^ 32 }
     ensures { Decides (Injective entries.now) (length seen.old) seen.new result }
 {
-    let d = seen.len();
-    array::fill(seen, d, 0);
-    array::count_values(seen, d, entries);
+    array::bincount(seen, entries);
     let once = array::all_below(seen, 2);
-    array::fill(seen, d, 0); // also where an entry stands twice
+    seen.fill(0); // also where an entry stands twice
     once
 }

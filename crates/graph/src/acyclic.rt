@@ -1,79 +1,49 @@
 // Whether a drawing is acyclic.
 ghost use Rattle.std.specs.Prelude.{◌≡◌, length};
-ghost use Rattle.rules.specs.Drawing.{Accepted, drawing};
+ghost use Rattle.rules.specs.Lent.{drawing_of};
 ghost use Rattle.rules.specs.Promises.{IsAcyclic};
 ghost use Rattle.rules.specs.Refusals.{workspace_need};
 ghost use Rattle.rules.specs.Inner.Acyclic.{Told, Decided};
 
 use crate::kahn::kahn;
-use rules::{Done, Refusal, Verdict};
+use hypergraph::check::accept;
+use hypergraph::incidence::incidence;
+use rules::{Checked, Drawing, Refusal};
 
 // Walks the incidence graph, in W words of workspace: how many nodes and operations are placed. Behind the table, degrees and depths tell of
 // each operation.
-pub fn walk(
-    ws: &mut [u32],
-    w: &[u32],
-    x: &[u32],
-    sl: &[u32],
-    sv: &[u32],
-    tl: &[u32],
-    tv: &[u32],
-) -> usize
-    requires accepted { Accepted (drawing w.now x.now sl.now sv.now tl.now tv.now) }
-    requires ws_len { length ws.old ≡ workspace_need (drawing w.now x.now sl.now sv.now tl.now tv.now) }
-    ensures { Told (drawing w.now x.now sl.now sv.now tl.now tv.now) ws.new result }
+pub fn walk(ws: &mut [u32], d: &Checked) -> usize
+    requires ws_len { length ws.old ≡ workspace_need (drawing_of d.now.drawing) }
+    ensures { Told (drawing_of d.now.drawing) ws.new result }
 {
-    let items = w.len() + x.len();
-    let table = items + 1 + sv.len() + tv.len();
-    hypergraph::incidence::incidence(&mut ws[..table], w, x, sl, sv, tl, tv);
-    kahn(ws, items, table)
+    let items = d.drawing.nodes.len() + d.drawing.ops.len();
+    let words = items + 1 + d.drawing.sources.values.len() + d.drawing.targets.values.len();
+    let (table, rest) = ws.split_at_mut(words);
+    let (degrees, rest) = rest.split_at_mut(items);
+    let (queue, rest) = rest.split_at_mut(items);
+    incidence(table, d);
+    kahn(table, degrees, queue, &mut rest[..items])
 }
 
 // Decides, in W words of workspace, and clears them.
-fn decide(
-    ws: &mut [u32],
-    w: &[u32],
-    x: &[u32],
-    sl: &[u32],
-    sv: &[u32],
-    tl: &[u32],
-    tv: &[u32],
-) -> bool
-    requires accepted { Accepted (drawing w.now x.now sl.now sv.now tl.now tv.now) }
-    requires ws_len { length ws.old ≡ workspace_need (drawing w.now x.now sl.now sv.now tl.now tv.now) }
-    ensures { Decided (drawing w.now x.now sl.now sv.now tl.now tv.now) ws.new result }
+fn decide(ws: &mut [u32], d: &Checked) -> bool
+    requires ws_len { length ws.old ≡ workspace_need (drawing_of d.now.drawing) }
+    ensures { Decided (drawing_of d.now.drawing) ws.new result }
 {
-    let items = w.len() + x.len();
-    let placed = walk(ws, w, x, sl, sv, tl, tv);
-    let all = ws.len();
-    array::fill(ws, all, 0);
+    let items = d.drawing.nodes.len() + d.drawing.ops.len();
+    let placed = walk(ws, d);
+    ws.fill(0);
     placed == items
 }
 
 // Whether no node lies on a directed cycle. Lent a workspace of W words or more.
-pub fn is_acyclic(
-    w: &[u32],
-    x: &[u32],
-    sl: &[u32],
-    sv: &[u32],
-    tl: &[u32],
-    tv: &[u32],
-    ws: &mut [u32],
-) -> Verdict
-    ensures { IsAcyclic (drawing w.now x.now sl.now sv.now tl.now tv.now) ws.old ws.new result }
+pub fn is_acyclic(d: &Drawing, ws: &mut [u32]) -> Result<bool, Refusal>
+    ensures { IsAcyclic (drawing_of d.now) ws.old ws.new result }
 {
-    match hypergraph::check::check_drawing(w, x, sl, sv, tl, tv) {
-        Done::Faulty(why) => Verdict::Refused(why),
-        Done::Fine => {
-            let words = hypergraph::check::workspace_need(w, x, sl, sv, tl, tv);
-            if ws.len() < words {
-                return Verdict::Refused(Refusal::ShortRoom);
-            }
-            if decide(&mut ws[..words], w, x, sl, sv, tl, tv) {
-                Verdict::Yes
-            } else {
-                Verdict::No
-            }
-        }
+    let d = accept(d)?;
+    let words = d.workspace_need();
+    if ws.len() < words {
+        return Err(Refusal::ShortRoom);
     }
+    Ok(decide(&mut ws[..words], &d))
 }

@@ -1,234 +1,174 @@
 // The adjacencies of a drawing, and how many entries they have.
 ghost use Rattle.std.specs.Prelude.{◌+◌, ◌≤◌, ◌<◌, ◌^◌, ◌≡◌, length, replicate};
 ghost use Rattle.rules.specs.Lists.{sum, row_entries};
-ghost use Rattle.rules.specs.Drawing.{Accepted, drawing};
+ghost use Rattle.rules.specs.Lent.{drawing_of};
+ghost use Rattle.rules.specs.Calls.{two_outputs_refusal};
+ghost use Rattle.rules.specs.Drawing.{node_count, op_count};
 ghost use Rattle.rules.specs.Analysis.{node_next, op_next};
 ghost use Rattle.rules.specs.Refusals.{workspace_need};
-ghost use Rattle.rules.specs.Promises.{NodeAdjacencySize, OperationAdjacencySize, NodeAdjacency, OperationAdjacency};
+ghost use Rattle.rules.specs.Promises.{WritesRows, NodeAdjacencySize, OperationAdjacencySize, NodeAdjacency, OperationAdjacency};
 ghost use Rattle.rules.specs.Inner.Loops.{Listed};
 ghost use Rattle.rules.specs.Inner.Rows.{Tables, PutRows};
-ghost use Rattle.rules.specs.Inner.Words.{listings};
+ghost use Rattle.hypergraph.specs.Items.{next_of, count_of};
 
-use crate::check::{check_drawing, workspace_need};
-use rules::{Done, Refusal, Size};
+use crate::check::accept;
+use indexed_coproduct::flatmap::{Table, flatmap};
+use rules::{Checked, Drawing, Refusal};
 
-// How many values `node_adjacency` writes: for each operation its sources times its targets.
-pub fn node_adjacency_size(
-    w: &[u32],
-    x: &[u32],
-    sl: &[u32],
-    sv: &[u32],
-    tl: &[u32],
-    tv: &[u32],
-) -> Size
-    ensures { NodeAdjacencySize (drawing w.now x.now sl.now sv.now tl.now tv.now) result }
-{
-    match check_drawing(w, x, sl, sv, tl, tv) {
-        Done::Faulty(why) => Size::Unsized(why),
-        Done::Fine => Size::Entries(array::dot(sl, tl)),
-    }
+// What an adjacency leads from, and to.
+// Stays: the new form is no plainer: three matches of two arms, where a trait would be two types, two impls and laws.
+#[derive(Clone, Copy, PartialEq, Eq, Debug)]
+pub enum Items {
+    Nodes,
+    Operations,
 }
 
-// How often the nodes of all targets are listed as sources, added up. A refusal leaves the lent memory untouched, so the counts are local.
-fn listed_targets(w: &[u32], x: &[u32], sl: &[u32], sv: &[u32], tl: &[u32], tv: &[u32]) -> u32
-    requires { Accepted (drawing w.now x.now sl.now sv.now tl.now tv.now) }
-    ensures { result ≡ listings sv.now tv.now }
+// How many entries the node adjacency has: for each operation its sources times its targets.
+fn node_entries(d: &Checked) -> u32
+    ensures { result ≡ length (row_entries (node_next (drawing_of d.now.drawing)) (node_count (drawing_of d.now.drawing))) }
 {
+    array::dot(d.drawing.sources.lengths, d.drawing.targets.lengths)
+}
+
+// How many entries the operation adjacency has: how often the nodes of all targets are listed as sources, added up. A refusal leaves the
+// lent memory untouched, so the counts are local.
+fn operation_entries(d: &Checked) -> u32
+    ensures { result ≡ length (row_entries (op_next (drawing_of d.now.drawing)) (op_count (drawing_of d.now.drawing))) }
+{
+    // Stays: no heap: the room is as large as the limit allows.
     let mut counts = [0u32; 4096];
-    array::count_values(&mut counts, w.len(), sv);
-    array::sum_at(&counts, tv)
+    array::count_values(&mut counts, d.drawing.sources.values);
+    array::sum_at(&counts, d.drawing.targets.values)
+}
+
+// How many values `node_adjacency` writes.
+pub fn node_adjacency_size(d: &Drawing) -> Result<u32, Refusal>
+    ensures { NodeAdjacencySize (drawing_of d.now) result }
+{
+    let d = accept(d)?;
+    Ok(node_entries(&d))
 }
 
 // How many values `operation_adjacency` writes.
-pub fn operation_adjacency_size(
-    w: &[u32],
-    x: &[u32],
-    sl: &[u32],
-    sv: &[u32],
-    tl: &[u32],
-    tv: &[u32],
-) -> Size
-    ensures { OperationAdjacencySize (drawing w.now x.now sl.now sv.now tl.now tv.now) result }
+pub fn operation_adjacency_size(d: &Drawing) -> Result<u32, Refusal>
+    ensures { OperationAdjacencySize (drawing_of d.now) result }
 {
-    match check_drawing(w, x, sl, sv, tl, tv) {
-        Done::Faulty(why) => Size::Unsized(why),
-        Done::Fine => Size::Entries(listed_targets(w, x, sl, sv, tl, tv)),
+    let d = accept(d)?;
+    Ok(operation_entries(&d))
+}
+
+// How many rows the adjacency has.
+fn rows(items: Items, d: &Checked) -> usize
+    ensures { result ≡ count_of items (drawing_of d.now.drawing) }
+{
+    match items {
+        Items::Nodes => d.drawing.nodes.len(),
+        Items::Operations => d.drawing.ops.len(),
+    }
+}
+
+// How many entries they have.
+fn entries(items: Items, d: &Checked) -> u32
+    ensures { result ≡ length (row_entries (next_of items (drawing_of d.now.drawing)) (count_of items (drawing_of d.now.drawing))) }
+{
+    match items {
+        Items::Nodes => node_entries(d),
+        Items::Operations => operation_entries(d),
     }
 }
 
 // The tables of the sources' converse, and of where each operation's targets start, in the front of the workspace.
-fn tables(ws: &mut [u32], n: usize, sl: &[u32], sv: &[u32], tl: &[u32])
-    requires listed { Listed n 0 sl.now sv.now × (sum tl.now < 2 ^ 32) }
-    requires tl_in_bounds { n + 1 + length sv.now + (length tl.now + 1) ≤ length ws.old }
-    ensures { Tables n sl.now sv.now tl.now ws.new }
+fn tables(ws: &mut [u32], d: &Checked)
+    requires { length ws.old ≡ workspace_need (drawing_of d.now.drawing) }
+    ensures { Tables (length d.now.drawing.nodes.now) d.now.drawing.sources.lengths.now d.now.drawing.sources.values.now d.now.drawing.targets.lengths.now ws.new }
 {
-    let table = n + 1 + sv.len();
-    let end = table + (tl.len() + 1);
-    indexed_coproduct::converse::converse(&mut ws[..table], n, sl, sv);
-    indexed_coproduct::converse::starts(&mut ws[table..end], tl);
+    let d = &d.drawing;
+    let n = d.nodes.len();
+    let table = n + 1 + d.sources.values.len();
+    let end = table + (d.targets.lengths.len() + 1);
+    indexed_coproduct::converse::converse(&mut ws[..table], n, &d.sources);
+    indexed_coproduct::converse::starts(&mut ws[table..end], d.targets.lengths);
 }
 
-// For each entry of a node's converse source list, that operation's targets: t after the converse of s.
-fn join_nodes(
-    ws: &[u32],
-    w: &[u32],
-    x: &[u32],
-    sl: &[u32],
-    sv: &[u32],
-    tl: &[u32],
-    tv: &[u32],
+// The two tables are joined. A node leads to the targets of each operation that lists it as a source: t after the converse of s. An
+// operation leads to each operation that lists one of its targets as a source: the converse of s after t.
+fn join(items: Items, ws: &[u32], d: &Checked, lens: &mut [u32], vals: &mut [u32])
+    requires tables { Tables (length d.now.drawing.nodes.now) d.now.drawing.sources.lengths.now d.now.drawing.sources.values.now d.now.drawing.targets.lengths.now ws.now }
+    requires room { (count_of items (drawing_of d.now.drawing) ≤ length lens.old) × (length (row_entries (next_of items (drawing_of d.now.drawing)) (count_of items (drawing_of d.now.drawing))) ≤ length vals.old) }
+    ensures { PutRows (next_of items (drawing_of d.now.drawing)) (count_of items (drawing_of d.now.drawing)) lens.old lens.new vals.old vals.new }
+{
+    let d = &d.drawing;
+    let first = d.nodes.len() + 1;
+    let table = first + d.sources.values.len();
+    let end = table + (d.targets.lengths.len() + 1);
+    let sources = Table {
+        offsets: &ws[..first],
+        entries: &ws[first..table],
+    };
+    let targets = Table {
+        offsets: &ws[table..end],
+        entries: d.targets.values,
+    };
+    match items {
+        Items::Nodes => flatmap(d.nodes.len(), &sources, &targets, lens, vals),
+        Items::Operations => flatmap(d.ops.len(), &targets, &sources, lens, vals),
+    }
+}
+
+// An adjacency is written, with W words of workspace, which are cleared.
+fn write(items: Items, ws: &mut [u32], d: &Checked, lens: &mut [u32], vals: &mut [u32])
+    requires ws_len { length ws.old ≡ workspace_need (drawing_of d.now.drawing) }
+    requires room { (count_of items (drawing_of d.now.drawing) ≤ length lens.old) × (length (row_entries (next_of items (drawing_of d.now.drawing)) (count_of items (drawing_of d.now.drawing))) ≤ length vals.old) }
+    ensures { PutRows (next_of items (drawing_of d.now.drawing)) (count_of items (drawing_of d.now.drawing)) lens.old lens.new vals.old vals.new × (ws.new ≡ replicate (length ws.old) 0) }
+{
+    tables(ws, d);
+    join(items, ws, d, lens, vals);
+    ws.fill(0);
+}
+
+// An adjacency of a drawing, or what it is refused with.
+#[tactic(auto, using(crate::proofs::Rooms::room_laws))]
+fn adjacency(
+    items: Items,
+    d: &Drawing,
     lens: &mut [u32],
     vals: &mut [u32],
-)
-    requires accepted { Accepted (drawing w.now x.now sl.now sv.now tl.now tv.now) }
-    requires tables { Tables (length w.now) sl.now sv.now tl.now ws.now }
-    requires w_in_bounds { (length w.now ≤ length lens.old) × (length (row_entries (node_next (drawing w.now x.now sl.now sv.now tl.now tv.now)) (length w.now)) ≤ length vals.old) }
-    ensures { PutRows (node_next (drawing w.now x.now sl.now sv.now tl.now tv.now)) (length w.now) lens.old lens.new vals.old vals.new }
-{
-    let n = w.len();
-    let items = n + 1;
-    let table = items + sv.len();
-    let end = table + (tl.len() + 1);
-    indexed_coproduct::flatmap::flatmap(
-        n,
-        &ws[..items],
-        &ws[items..table],
-        &ws[table..end],
-        tv,
-        lens,
-        vals,
-    );
-}
-
-// For each target of an operation, the converse source list of that node: the converse of s after t.
-fn join_operations(
-    ws: &[u32],
-    w: &[u32],
-    x: &[u32],
-    sl: &[u32],
-    sv: &[u32],
-    tl: &[u32],
-    tv: &[u32],
-    lens: &mut [u32],
-    vals: &mut [u32],
-)
-    requires accepted { Accepted (drawing w.now x.now sl.now sv.now tl.now tv.now) }
-    requires tables { Tables (length w.now) sl.now sv.now tl.now ws.now }
-    requires x_in_bounds { (length x.now ≤ length lens.old) × (length (row_entries (op_next (drawing w.now x.now sl.now sv.now tl.now tv.now)) (length x.now)) ≤ length vals.old) }
-    ensures { PutRows (op_next (drawing w.now x.now sl.now sv.now tl.now tv.now)) (length x.now) lens.old lens.new vals.old vals.new }
-{
-    let items = w.len() + 1;
-    let table = items + sv.len();
-    let end = table + (tl.len() + 1);
-    indexed_coproduct::flatmap::flatmap(
-        x.len(),
-        &ws[table..end],
-        tv,
-        &ws[..items],
-        &ws[items..table],
-        lens,
-        vals,
-    );
-}
-
-// The node adjacency is written, with W words of workspace, which are cleared.
-fn write_nodes(
     ws: &mut [u32],
-    w: &[u32],
-    x: &[u32],
-    sl: &[u32],
-    sv: &[u32],
-    tl: &[u32],
-    tv: &[u32],
-    lens: &mut [u32],
-    vals: &mut [u32],
-)
-    requires accepted { Accepted (drawing w.now x.now sl.now sv.now tl.now tv.now) }
-    requires ws_len { length ws.old ≡ workspace_need (drawing w.now x.now sl.now sv.now tl.now tv.now) }
-    requires w_in_bounds { (length w.now ≤ length lens.old) × (length (row_entries (node_next (drawing w.now x.now sl.now sv.now tl.now tv.now)) (length w.now)) ≤ length vals.old) }
-    ensures { PutRows (node_next (drawing w.now x.now sl.now sv.now tl.now tv.now)) (length w.now) lens.old lens.new vals.old vals.new × (ws.new ≡ replicate (length ws.old) 0) }
+) -> Result<(), Refusal>
+    ensures { WritesRows (next_of items (drawing_of d.now)) (count_of items (drawing_of d.now)) (two_outputs_refusal (drawing_of d.now) (count_of items (drawing_of d.now)) (length lens.old) (length (row_entries (next_of items (drawing_of d.now)) (count_of items (drawing_of d.now)))) (length vals.old) (length ws.old)) (workspace_need (drawing_of d.now)) lens.old lens.new vals.old vals.new ws.old ws.new result }
 {
-    tables(ws, w.len(), sl, sv, tl);
-    join_nodes(ws, w, x, sl, sv, tl, tv, lens, vals);
-    let all = ws.len();
-    array::fill(ws, all, 0);
-}
-
-// The operation adjacency is written, with W words of workspace, which are cleared.
-fn write_operations(
-    ws: &mut [u32],
-    w: &[u32],
-    x: &[u32],
-    sl: &[u32],
-    sv: &[u32],
-    tl: &[u32],
-    tv: &[u32],
-    lens: &mut [u32],
-    vals: &mut [u32],
-)
-    requires accepted { Accepted (drawing w.now x.now sl.now sv.now tl.now tv.now) }
-    requires ws_len { length ws.old ≡ workspace_need (drawing w.now x.now sl.now sv.now tl.now tv.now) }
-    requires x_in_bounds { (length x.now ≤ length lens.old) × (length (row_entries (op_next (drawing w.now x.now sl.now sv.now tl.now tv.now)) (length x.now)) ≤ length vals.old) }
-    ensures { PutRows (op_next (drawing w.now x.now sl.now sv.now tl.now tv.now)) (length x.now) lens.old lens.new vals.old vals.new × (ws.new ≡ replicate (length ws.old) 0) }
-{
-    tables(ws, w.len(), sl, sv, tl);
-    join_operations(ws, w, x, sl, sv, tl, tv, lens, vals);
-    let all = ws.len();
-    array::fill(ws, all, 0);
+    let d = accept(d)?;
+    let words = d.workspace_need();
+    if (lens.len() < rows(items, &d))
+        | (vals.len() < entries(items, &d) as usize)
+        | (ws.len() < words)
+    {
+        return Err(Refusal::ShortRoom);
+    }
+    write(items, &mut ws[..words], &d, lens, vals);
+    Ok(())
 }
 
 // For each node the nodes that it leads to: n lengths, and the values of all. Lent a workspace of W words or more.
-#[tactic(auto, using(crate::proofs::Rooms::room_laws))]
 pub fn node_adjacency(
-    w: &[u32],
-    x: &[u32],
-    sl: &[u32],
-    sv: &[u32],
-    tl: &[u32],
-    tv: &[u32],
+    d: &Drawing,
     lens: &mut [u32],
     vals: &mut [u32],
     ws: &mut [u32],
-) -> Done
-    ensures { NodeAdjacency (drawing w.now x.now sl.now sv.now tl.now tv.now) lens.old lens.new vals.old vals.new ws.old ws.new result }
+) -> Result<(), Refusal>
+    ensures { NodeAdjacency (drawing_of d.now) lens.old lens.new vals.old vals.new ws.old ws.new result }
 {
-    match node_adjacency_size(w, x, sl, sv, tl, tv) {
-        Size::Unsized(why) => Done::Faulty(why),
-        Size::Entries(size) => {
-            let words = workspace_need(w, x, sl, sv, tl, tv);
-            if (lens.len() < w.len()) | (vals.len() < size as usize) | (ws.len() < words) {
-                return Done::Faulty(Refusal::ShortRoom);
-            }
-            write_nodes(&mut ws[..words], w, x, sl, sv, tl, tv, lens, vals);
-            Done::Fine
-        }
-    }
+    adjacency(Items::Nodes, d, lens, vals, ws)
 }
 
 // For each operation the operations that it leads to: m lengths, and the values of all. Lent a workspace of W words or more.
-#[tactic(auto, using(crate::proofs::Rooms::room_laws))]
 pub fn operation_adjacency(
-    w: &[u32],
-    x: &[u32],
-    sl: &[u32],
-    sv: &[u32],
-    tl: &[u32],
-    tv: &[u32],
+    d: &Drawing,
     lens: &mut [u32],
     vals: &mut [u32],
     ws: &mut [u32],
-) -> Done
-    ensures { OperationAdjacency (drawing w.now x.now sl.now sv.now tl.now tv.now) lens.old lens.new vals.old vals.new ws.old ws.new result }
+) -> Result<(), Refusal>
+    ensures { OperationAdjacency (drawing_of d.now) lens.old lens.new vals.old vals.new ws.old ws.new result }
 {
-    match operation_adjacency_size(w, x, sl, sv, tl, tv) {
-        Size::Unsized(why) => Done::Faulty(why),
-        Size::Entries(size) => {
-            let words = workspace_need(w, x, sl, sv, tl, tv);
-            if (lens.len() < x.len()) | (vals.len() < size as usize) | (ws.len() < words) {
-                return Done::Faulty(Refusal::ShortRoom);
-            }
-            write_operations(&mut ws[..words], w, x, sl, sv, tl, tv, lens, vals);
-            Done::Fine
-        }
-    }
+    adjacency(Items::Operations, d, lens, vals, ws)
 }

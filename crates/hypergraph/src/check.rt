@@ -1,159 +1,145 @@
-// The checks of what is lent, in document 01's order.
-//
-// A drawing is six slices: w node labels, x operation labels, sl and sv the sources' lengths and values, tl and tv the targets'.
-ghost use Rattle.std.specs.Prelude.{◌≡◌};
-ghost use Rattle.rules.specs.Drawing.{Accepted, drawing, maps, boundary};
-ghost use Rattle.rules.specs.Refusals.{refusal_of, workspace_need, within, lengths_fit, values_below, maps_within, entries_below, boundary_within, boundary_below};
+// The checks of what is lent, in the order in which refusals are given.
+ghost use Rattle.std.specs.Prelude.{◌≡◌, ◌&&◌, eqb, length, IfOk};
+ghost use Rattle.rules.specs.Lent.{drawing_of, maps_of, boundary_of};
+ghost use Rattle.rules.specs.Calls.{drawing_refusal};
+ghost use Rattle.rules.specs.Lists.{sum};
+ghost use Rattle.rules.specs.Refusals.{refusal_of, within, lengths_fit, values_below, maps_within, entries_below, boundary_within, boundary_below};
 ghost use Rattle.rules.specs.Promises.{CheckDrawing, CheckMaps, CheckBoundary};
 ghost use Rattle.rules.specs.Inner.Checks.{lists_refusal, boundary_lists_refusal};
 
-use rules::{Done, Refusal};
+use rules::{Boundary, Checked, Drawing, IndexedCoproduct, Maps, Refusal};
 
 // 1: whether the counts are within their limits.
-pub fn counts_within(w: &[u32], x: &[u32], sl: &[u32], sv: &[u32], tl: &[u32], tv: &[u32]) -> bool
-    ensures { result ≡ within (drawing w.now x.now sl.now sv.now tl.now tv.now) }
+pub fn counts_within(d: &Drawing) -> bool
+    ensures { result ≡ within (drawing_of d.now) }
 {
-    (w.len() <= 4096) & (x.len() <= 4096) & (sv.len() <= 16384) & (tv.len() <= 16384)
+    (d.nodes.len() <= 4096)
+        & (d.ops.len() <= 4096)
+        & (d.sources.values.len() <= 16384)
+        & (d.targets.values.len() <= 16384)
 }
 
-// 2: whether each length list has an entry for each operation and adds up to its values.
-fn lengths_fit(w: &[u32], x: &[u32], sl: &[u32], sv: &[u32], tl: &[u32], tv: &[u32]) -> bool
-    ensures { result ≡ lengths_fit (drawing w.now x.now sl.now sv.now tl.now tv.now) }
+// Whether there are so many lists, whose lengths add up to the count of values.
+fn has_lists(lists: &IndexedCoproduct, count: usize) -> bool
+    ensures { result ≡ (eqb (length lists.now.lengths.now) count && eqb (sum lists.now.lengths.now) (length lists.now.values.now)) }
 {
-    (sl.len() == x.len())
-        & array::sums_to(sl, sv.len())
-        & (tl.len() == x.len())
-        & array::sums_to(tl, tv.len())
+    (lists.lengths.len() == count) & array::sums_to(lists.lengths, lists.values.len())
+}
+
+// 2: whether each operation has a list of sources and one of targets.
+fn lengths_fit(d: &Drawing) -> bool
+    ensures { result ≡ lengths_fit (drawing_of d.now) }
+{
+    has_lists(&d.sources, d.ops.len()) & has_lists(&d.targets, d.ops.len())
 }
 
 // 3: whether each value is a node.
-fn values_below(w: &[u32], x: &[u32], sl: &[u32], sv: &[u32], tl: &[u32], tv: &[u32]) -> bool
-    ensures { result ≡ values_below (drawing w.now x.now sl.now sv.now tl.now tv.now) }
+fn values_below(d: &Drawing) -> bool
+    ensures { result ≡ values_below (drawing_of d.now) }
 {
-    array::all_below(sv, w.len()) & array::all_below(tv, w.len())
+    array::all_below(d.sources.values, d.nodes.len())
+        & array::all_below(d.targets.values, d.nodes.len())
 }
 
 // 2, then 3.
 #[tactic(auto, unfolding(rules::specs::Inner::Checks::lists_refusal))]
-pub fn check_lists(w: &[u32], x: &[u32], sl: &[u32], sv: &[u32], tl: &[u32], tv: &[u32]) -> Done
-    ensures { refusal_of result ≡ lists_refusal (drawing w.now x.now sl.now sv.now tl.now tv.now) }
+pub fn check_lists(d: &Drawing) -> Result<(), Refusal>
+    ensures { refusal_of result ≡ lists_refusal (drawing_of d.now) }
 {
-    let fit = lengths_fit(w, x, sl, sv, tl, tv);
-    let below = values_below(w, x, sl, sv, tl, tv);
-    if fit {
-        if below {
-            Done::Fine
-        } else {
-            Done::Faulty(Refusal::BadValue)
-        }
-    } else {
-        Done::Faulty(Refusal::BadLengths)
+    if !lengths_fit(d) {
+        return Err(Refusal::BadLengths);
     }
+    if !values_below(d) {
+        return Err(Refusal::BadValue);
+    }
+    Ok(())
 }
 
 // Whether a drawing is valid, and if not, with which number it is refused.
-pub fn check_drawing(w: &[u32], x: &[u32], sl: &[u32], sv: &[u32], tl: &[u32], tv: &[u32]) -> Done
-    ensures { CheckDrawing (drawing w.now x.now sl.now sv.now tl.now tv.now) result }
+#[tactic(auto, unfolding(rules::specs::Calls::drawing_refusal, rules::specs::Inner::Checks::lists_refusal))]
+pub fn check_drawing(d: &Drawing) -> Result<(), Refusal>
+    ensures { CheckDrawing (drawing_of d.now) result }
 {
-    if counts_within(w, x, sl, sv, tl, tv) {
-        check_lists(w, x, sl, sv, tl, tv)
-    } else {
-        Done::Faulty(Refusal::OverLimit)
+    if !counts_within(d) {
+        return Err(Refusal::OverLimit);
     }
+    check_lists(d)
 }
 
-// W: how many words of workspace a call on a valid drawing needs.
-pub fn workspace_need(w: &[u32], x: &[u32], sl: &[u32], sv: &[u32], tl: &[u32], tv: &[u32]) -> usize
-    requires { Accepted (drawing w.now x.now sl.now sv.now tl.now tv.now) }
-    ensures { result ≡ workspace_need (drawing w.now x.now sl.now sv.now tl.now tv.now) }
+// The same, and hands a valid drawing back as one that is known to be valid.
+pub fn accept<'a>(d: &Drawing<'a>) -> Result<Checked<'a>, Refusal>
+    ensures refusal { refusal_of result ≡ drawing_refusal (drawing_of d.now) }
+    ensures same { IfOk result (λ c. c.drawing ≡ d.now) }
 {
-    8 * (w.len() + x.len()) + 2 * (sv.len() + tv.len()) + 8
+    check_drawing(d)?;
+    Ok(Checked { drawing: *d })
 }
 
-// 1: whether two maps, entries fw and fx with declared targets wd and xd, are within their limits.
-pub fn maps_within(fw: &[u32], wd: u32, fx: &[u32], xd: u32) -> bool
-    ensures { result ≡ maps_within (maps fw.now wd fx.now xd) }
+// 1: whether two maps are within their limits.
+pub fn maps_within(f: &Maps) -> bool
+    ensures { result ≡ maps_within (maps_of f.now) }
 {
-    (wd <= 4096) & (fw.len() <= 4096) & (xd <= 4096) & (fx.len() <= 4096)
+    (f.w.target <= 4096)
+        & (f.w.entries.len() <= 4096)
+        & (f.x.target <= 4096)
+        & (f.x.entries.len() <= 4096)
 }
 
 // 4: whether each entry is below its map's declared target.
-pub fn entries_below(fw: &[u32], wd: u32, fx: &[u32], xd: u32) -> bool
-    ensures { result ≡ entries_below (maps fw.now wd fx.now xd) }
+pub fn entries_below(f: &Maps) -> bool
+    ensures { result ≡ entries_below (maps_of f.now) }
 {
-    array::all_below(fw, wd as usize) & array::all_below(fx, xd as usize)
+    array::all_below(f.w.entries, f.w.target as usize)
+        & array::all_below(f.x.entries, f.x.target as usize)
 }
 
 // Whether two maps are valid, and if not, with which number they are refused.
-pub fn check_maps(fw: &[u32], wd: u32, fx: &[u32], xd: u32) -> Done
-    ensures { CheckMaps (maps fw.now wd fx.now xd) result }
+#[tactic(auto, unfolding(rules::specs::Calls::maps_refusal))]
+pub fn check_maps(f: &Maps) -> Result<(), Refusal>
+    ensures { CheckMaps (maps_of f.now) result }
 {
-    if maps_within(fw, wd, fx, xd) {
-        if entries_below(fw, wd, fx, xd) {
-            Done::Fine
-        } else {
-            Done::Faulty(Refusal::BadEntry)
-        }
-    } else {
-        Done::Faulty(Refusal::OverLimit)
+    if !maps_within(f) {
+        return Err(Refusal::OverLimit);
     }
+    if !entries_below(f) {
+        return Err(Refusal::BadEntry);
+    }
+    Ok(())
 }
 
 // 1: whether the counts of a boundary are within their limits.
-pub fn boundary_within(inputs: &[u32], outputs: &[u32]) -> bool
-    ensures { result ≡ boundary_within (boundary inputs.now outputs.now) }
+pub fn boundary_within(b: &Boundary) -> bool
+    ensures { result ≡ boundary_within (boundary_of b.now) }
 {
-    (inputs.len() <= 4096) & (outputs.len() <= 4096)
+    (b.inputs.len() <= 4096) & (b.outputs.len() <= 4096)
 }
 
 // 12: whether each entry of a boundary is one of n nodes.
-pub(crate) fn boundary_below(n: usize, inputs: &[u32], outputs: &[u32]) -> bool
-    ensures { result ≡ boundary_below n (boundary inputs.now outputs.now) }
+pub(crate) fn boundary_below(n: usize, b: &Boundary) -> bool
+    ensures { result ≡ boundary_below n (boundary_of b.now) }
 {
-    array::all_below(inputs, n) & array::all_below(outputs, n)
+    array::all_below(b.inputs, n) & array::all_below(b.outputs, n)
 }
 
 // 2 and 3 of a drawing, then 12 of its boundary.
-pub fn check_boundary_lists(
-    w: &[u32],
-    x: &[u32],
-    sl: &[u32],
-    sv: &[u32],
-    tl: &[u32],
-    tv: &[u32],
-    inputs: &[u32],
-    outputs: &[u32],
-) -> Done
-    ensures { refusal_of result ≡ boundary_lists_refusal (drawing w.now x.now sl.now sv.now tl.now tv.now) (boundary inputs.now outputs.now) }
+#[tactic(auto, unfolding(rules::specs::Inner::Checks::boundary_lists_refusal, rules::specs::Inner::Checks::lists_refusal))]
+pub fn check_boundary_lists(d: &Drawing, b: &Boundary) -> Result<(), Refusal>
+    ensures { refusal_of result ≡ boundary_lists_refusal (drawing_of d.now) (boundary_of b.now) }
 {
-    match check_lists(w, x, sl, sv, tl, tv) {
-        Done::Faulty(why) => Done::Faulty(why),
-        Done::Fine => {
-            if boundary_below(w.len(), inputs, outputs) {
-                Done::Fine
-            } else {
-                Done::Faulty(Refusal::BadBoundary)
-            }
-        }
+    check_lists(d)?;
+    if !boundary_below(d.nodes.len(), b) {
+        return Err(Refusal::BadBoundary);
     }
+    Ok(())
 }
 
 // Whether a drawing and a boundary of it are valid, and if not, with which number they are refused.
-pub fn check_boundary(
-    w: &[u32],
-    x: &[u32],
-    sl: &[u32],
-    sv: &[u32],
-    tl: &[u32],
-    tv: &[u32],
-    inputs: &[u32],
-    outputs: &[u32],
-) -> Done
-    ensures { CheckBoundary (drawing w.now x.now sl.now sv.now tl.now tv.now) (boundary inputs.now outputs.now) result }
+#[tactic(auto, unfolding(rules::specs::Calls::boundary_refusal, rules::specs::Inner::Checks::boundary_lists_refusal))]
+pub fn check_boundary(d: &Drawing, b: &Boundary) -> Result<(), Refusal>
+    ensures { CheckBoundary (drawing_of d.now) (boundary_of b.now) result }
 {
-    if counts_within(w, x, sl, sv, tl, tv) & boundary_within(inputs, outputs) {
-        check_boundary_lists(w, x, sl, sv, tl, tv, inputs, outputs)
-    } else {
-        Done::Faulty(Refusal::OverLimit)
+    if !(counts_within(d) & boundary_within(b)) {
+        return Err(Refusal::OverLimit);
     }
+    check_boundary_lists(d, b)
 }

@@ -1,9 +1,33 @@
-// The table of a drawing's incidence graph: n + m + 1 offsets, then S + T items.
+// Tables of items and what each leads to, and that of a drawing's incidence graph: n + m + 1 offsets, then S + T items.
 ghost use Rattle.std.specs.Prelude.{ℕ, ◌<◌, ◌≡◌, length};
 ghost use Rattle.rules.specs.Lists.{◌∈◌};
-ghost use Rattle.rules.specs.Drawing.{Accepted, drawing};
+ghost use Rattle.rules.specs.Lent.{drawing_of};
 ghost use Rattle.rules.specs.Inner.IncidenceTable.{Offsets, Incident, table_length};
 ghost use Rattle.rules.specs.Inner.Loops.{Few};
+ghost use Rattle.rules.specs.Inner.Table.{successors};
+ghost use Rattle.rules.specs.Inner.Search.{Row};
+
+use rules::Checked;
+
+// A table of so many rows: where each begins, and behind that the items of all.
+#[derive(Clone, Copy)]
+pub struct Rows<'a> {
+    pub count: usize,
+    pub words: &'a [u32],
+}
+
+impl<'a> Rows<'a> {
+    // Row i: what item i leads to.
+    #[tactic(auto, using(rules::proofs::Facts::Tables::row))]
+    pub fn row(self, i: usize) -> &'a [u32]
+        requires { Row self.count self.words.now i }
+        ensures { result.now ≡ successors self.entry.count self.entry.words.now i }
+    {
+        let from = self.count + 1 + self.words[i] as usize;
+        let end = self.count + 1 + self.words[i + 1] as usize;
+        &self.words[from..end]
+    }
+}
 
 // The offsets of n nodes and the operations: each node's points behind its row, which is still empty.
 fn offsets(t: &mut [u32], n: usize, sv: &[u32], tl: &[u32])
@@ -11,33 +35,23 @@ fn offsets(t: &mut [u32], n: usize, sv: &[u32], tl: &[u32])
     requires few { Few n sv.now tl.now t.old }
     ensures { Offsets n sv.now tl.now t.new }
 {
-    let first = n + 1;
-    let items = first + tl.len();
-    array::fill(t, first, 0);
-    array::copy(&mut t[first..items], tl);
-    array::count_values(t, n, sv);
-    array::running(t, items);
+    let (nodes, ops) = t.split_at_mut(n + 1);
+    nodes.fill(0);
+    array::count_values(nodes, sv);
+    ops.copy_from_slice(tl);
+    array::running(t);
 }
 
 // The table of a drawing's incidence graph.
-pub fn incidence(
-    t: &mut [u32],
-    w: &[u32],
-    x: &[u32],
-    sl: &[u32],
-    sv: &[u32],
-    tl: &[u32],
-    tv: &[u32],
-)
-    requires accepted { Accepted (drawing w.now x.now sl.now sv.now tl.now tv.now) }
-    requires t_len { length t.old ≡ table_length (drawing w.now x.now sl.now sv.now tl.now tv.now) }
-    ensures { Incident (drawing w.now x.now sl.now sv.now tl.now tv.now) t.new }
+pub fn incidence(t: &mut [u32], d: &Checked)
+    requires { length t.old ≡ table_length (drawing_of d.now.drawing) }
+    ensures { Incident (drawing_of d.now.drawing) t.new }
 {
-    let n = w.len();
-    let items = n + x.len() + 1;
-    let targets = items + sv.len();
-    let end = targets + tv.len();
-    offsets(t, n, sv, tl);
-    indexed_coproduct::place(t, n, items, n, sl, sv);
-    array::copy(&mut t[targets..end], tv);
+    let d = &d.drawing;
+    let n = d.nodes.len();
+    let (first, items) = t.split_at_mut(n + d.ops.len() + 1);
+    let (rows, targets) = items.split_at_mut(d.sources.values.len());
+    offsets(first, n, d.sources.values, d.targets.lengths);
+    indexed_coproduct::place(&mut first[..n], rows, n, &d.sources);
+    targets.copy_from_slice(d.targets.values);
 }

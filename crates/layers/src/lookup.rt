@@ -1,21 +1,5 @@
 // The lookup of one layer in what `layered_operations` wrote.
-ghost use Rattle.std.specs.Prelude.{◌≡◌};
-ghost use Rattle.rules.specs.Analysis.{rising};
 ghost use Rattle.rules.specs.Promises.{OffsetsSound, LayerAt};
-
-// Whether a list never falls.
-fn never_falls(list: &[u32]) -> bool
-    ensures { result ≡ rising list.now }
-{
-    let mut i = 0;
-    while i + 1 < list.len() {
-        if list[i + 1] < list[i] {
-            return false;
-        }
-        i += 1;
-    }
-    true
-}
 
 // Whether offsets are sound: one more than the operations, first 0, never falling, last their number.
 pub fn offsets_sound(operations: &[u32], offsets: &[u32]) -> bool
@@ -25,7 +9,7 @@ pub fn offsets_sound(operations: &[u32], offsets: &[u32]) -> bool
     if offsets.len() != m + 1 {
         return false;
     }
-    (offsets[0] == 0) & never_falls(offsets) & (offsets[m] as usize == m)
+    (offsets[0] == 0) & offsets.is_sorted() & (offsets[m] as usize == m)
 }
 
 // Layer i, as a part of the operations: the empty part for an unknown layer or bad offsets.

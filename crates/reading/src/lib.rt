@@ -15,6 +15,7 @@ pub fn read_full<R: Read>(input: &mut R, room: &mut [u8]) -> io::Result<usize>
     ensures end { IfOk result (λ n. n < length room.new → IsAtEnd (R.remaining input.new)) }
 {
     let mut done = 0;
+    // Stays: the new form is no plainer. A turn goes on by what its read gave, which no range or iterator knows; `read_exact` fails at a short input.
     while done < room.len() {
         let n = input.read(&mut room[done..])?;
         if n == 0 {

@@ -1,286 +1,166 @@
 // The calls, through their C faces, on the lists of a case.
-use crate::lists;
+use crate::case::{Case, Lists, Maps};
+use exports::{
+    tiwelzam_check_boundary, tiwelzam_check_drawing, tiwelzam_check_maps, tiwelzam_eval,
+    tiwelzam_is_acyclic, tiwelzam_is_convex_subgraph, tiwelzam_is_monomorphism, tiwelzam_layer,
+    tiwelzam_layer_at, tiwelzam_layered_operations, tiwelzam_node_adjacency,
+    tiwelzam_node_adjacency_size, tiwelzam_offsets_sound, tiwelzam_operation_adjacency,
+    tiwelzam_operation_adjacency_size, tiwelzam_source_converse, tiwelzam_target_converse,
+    tiwelzam_validate,
+};
 
-// Calls on one drawing that write no list.
-fn ask(
-    call: u32,
-    w: &[u32],
-    x: &[u32],
-    sl: &[u32],
-    sv: &[u32],
-    tl: &[u32],
-    tv: &[u32],
-    ws: &mut [u32],
-    word: &mut u32,
-) -> u32 {
-    match call {
-        1 => exports::tiwelzam_check_drawing(w, x, sl, sv, tl, tv),
-        8 => exports::tiwelzam_node_adjacency_size(w, x, sl, sv, tl, tv, word),
-        9 => exports::tiwelzam_operation_adjacency_size(w, x, sl, sv, tl, tv, word),
-        _ => exports::tiwelzam_is_acyclic(w, x, sl, sv, tl, tv, ws, word),
+// The calls; each has the number that a case begins with.
+#[derive(Clone, Copy)]
+enum Call {
+    CheckDrawing,
+    CheckMaps,
+    CheckBoundary,
+    SourceConverse,
+    TargetConverse,
+    NodeAdjacency,
+    OperationAdjacency,
+    NodeAdjacencySize,
+    OperationAdjacencySize,
+    IsAcyclic,
+    Layer,
+    LayeredOperations,
+    OffsetsSound,
+    LayerAt,
+    Validate,
+    IsMonomorphism,
+    IsConvexSubgraph,
+    Eval,
+}
+
+// No call has this number.
+#[derive(Drop)]
+struct Unknown;
+
+impl TryFrom<u32> for Call {
+    type Error = Unknown;
+
+    fn try_from(number: u32) -> Result<Call, Unknown> {
+        match number {
+            1 => Ok(Call::CheckDrawing),
+            2 => Ok(Call::CheckMaps),
+            3 => Ok(Call::CheckBoundary),
+            4 => Ok(Call::SourceConverse),
+            5 => Ok(Call::TargetConverse),
+            6 => Ok(Call::NodeAdjacency),
+            7 => Ok(Call::OperationAdjacency),
+            8 => Ok(Call::NodeAdjacencySize),
+            9 => Ok(Call::OperationAdjacencySize),
+            10 => Ok(Call::IsAcyclic),
+            11 => Ok(Call::Layer),
+            12 => Ok(Call::LayeredOperations),
+            13 => Ok(Call::OffsetsSound),
+            14 => Ok(Call::LayerAt),
+            15 => Ok(Call::Validate),
+            16 => Ok(Call::IsMonomorphism),
+            17 => Ok(Call::IsConvexSubgraph),
+            18 => Ok(Call::Eval),
+            _ => Err(Unknown),
+        }
     }
 }
 
-// Calls on one drawing that write two lists.
-fn tabulate(
-    call: u32,
-    w: &[u32],
-    x: &[u32],
-    sl: &[u32],
-    sv: &[u32],
-    tl: &[u32],
-    tv: &[u32],
-    first: &mut [u32],
-    second: &mut [u32],
-    ws: &mut [u32],
-) -> u32 {
-    match call {
-        4 => exports::tiwelzam_source_converse(w, x, sl, sv, tl, tv, first, second, ws),
-        5 => exports::tiwelzam_target_converse(w, x, sl, sv, tl, tv, first, second, ws),
-        6 => exports::tiwelzam_node_adjacency(w, x, sl, sv, tl, tv, first, second, ws),
-        7 => exports::tiwelzam_operation_adjacency(w, x, sl, sv, tl, tv, first, second, ws),
-        _ => exports::tiwelzam_layer(w, x, sl, sv, tl, tv, first, second, ws),
-    }
+// The memory that a call is lent to write to.
+pub(crate) struct Lent<'a> {
+    pub(crate) first: &'a mut [u32],
+    pub(crate) second: &'a mut [u32],
+    pub(crate) third: &'a mut [u32],
+    pub(crate) ws: &'a mut [u32],
+    pub(crate) word: &'a mut u32,
 }
 
-// Calls on two maps alone.
-fn compare(
-    call: u32,
-    fw: &[u32],
-    wd: u32,
-    fx: &[u32],
-    xd: u32,
-    ws: &mut [u32],
-    word: &mut u32,
-) -> u32 {
-    match call {
-        2 => exports::tiwelzam_check_maps(fw, wd, fx, xd),
-        _ => exports::tiwelzam_is_monomorphism(fw, wd, fx, xd, ws, word),
-    }
+// Whether the maps between two drawings are natural.
+fn validate(from: Lists, to: Lists, maps: Maps) -> u32 {
+    let Maps { fw, wd, fx, xd } = maps;
+    tiwelzam_validate(
+        from.w, from.x, from.sl, from.sv, from.tl, from.tv, to.w, to.x, to.sl, to.sv, to.tl, to.tv,
+        fw, wd, fx, xd,
+    )
 }
 
-// Calls on a drawing and its boundary.
-fn evaluate(
-    call: u32,
-    w: &[u32],
-    x: &[u32],
-    sl: &[u32],
-    sv: &[u32],
-    tl: &[u32],
-    tv: &[u32],
-    inputs: &[u32],
-    outputs: &[u32],
-    values: &[u32],
-    first: &mut [u32],
-    ws: &mut [u32],
-) -> u32 {
-    match call {
-        3 => exports::tiwelzam_check_boundary(w, x, sl, sv, tl, tv, inputs, outputs),
-        _ => exports::tiwelzam_eval(w, x, sl, sv, tl, tv, inputs, outputs, values, first, ws),
-    }
+// Whether the maps between two drawings select a convex group.
+fn is_convex(from: Lists, to: Lists, maps: Maps, ws: &mut [u32], word: &mut u32) -> u32 {
+    let Maps { fw, wd, fx, xd } = maps;
+    tiwelzam_is_convex_subgraph(
+        from.w, from.x, from.sl, from.sv, from.tl, from.tv, to.w, to.x, to.sl, to.sv, to.tl, to.tv,
+        fw, wd, fx, xd, ws, word,
+    )
 }
 
-// Calls on operations and offsets; where a layer starts goes into the first output.
-fn look_up(
-    call: u32,
-    operations: &[u32],
-    offsets: &[u32],
-    i: u32,
-    first: &mut [u32],
-    word: &mut u32,
-) -> u32 {
-    if call == 13 {
-        return exports::tiwelzam_offsets_sound(operations, offsets, word);
-    }
-    let mut start: u32 = 0;
-    let refusal = exports::tiwelzam_layer_at(operations, offsets, i as usize, &mut start, word);
-    if 0 < first.len() {
-        first[0] = start;
+// A layer of operations and offsets; where it starts goes into the first output.
+fn layer_at(ops: &[u32], offsets: &[u32], i: u32, first: &mut [u32], word: &mut u32) -> u32 {
+    let mut start = 0;
+    let refusal = tiwelzam_layer_at(ops, offsets, i as usize, &mut start, word);
+    if let Some(entry) = first.first_mut() {
+        *entry = start;
     }
     refusal
 }
 
-// The calls on one drawing.
-fn on_drawing(call: u32, words: &[u32], ends: &[u32], ws: &mut [u32], word: &mut u32) -> u32 {
-    ask(
-        call,
-        lists::part(words, ends, 0),
-        lists::part(words, ends, 1),
-        lists::part(words, ends, 2),
-        lists::part(words, ends, 3),
-        lists::part(words, ends, 4),
-        lists::part(words, ends, 5),
-        ws,
-        word,
-    )
-}
-
-fn on_tables(
-    call: u32,
-    words: &[u32],
-    ends: &[u32],
-    first: &mut [u32],
-    second: &mut [u32],
-    ws: &mut [u32],
-) -> u32 {
-    tabulate(
-        call,
-        lists::part(words, ends, 0),
-        lists::part(words, ends, 1),
-        lists::part(words, ends, 2),
-        lists::part(words, ends, 3),
-        lists::part(words, ends, 4),
-        lists::part(words, ends, 5),
-        first,
-        second,
-        ws,
-    )
-}
-
-fn on_layers(
-    words: &[u32],
-    ends: &[u32],
-    first: &mut [u32],
-    second: &mut [u32],
-    third: &mut [u32],
-    ws: &mut [u32],
-) -> u32 {
-    exports::tiwelzam_layered_operations(
-        lists::part(words, ends, 0),
-        lists::part(words, ends, 1),
-        lists::part(words, ends, 2),
-        lists::part(words, ends, 3),
-        lists::part(words, ends, 4),
-        lists::part(words, ends, 5),
-        first,
-        second,
-        third,
-        ws,
-    )
-}
-
-fn on_boundary(call: u32, words: &[u32], ends: &[u32], first: &mut [u32], ws: &mut [u32]) -> u32 {
-    evaluate(
-        call,
-        lists::part(words, ends, 0),
-        lists::part(words, ends, 1),
-        lists::part(words, ends, 2),
-        lists::part(words, ends, 3),
-        lists::part(words, ends, 4),
-        lists::part(words, ends, 5),
-        lists::part(words, ends, 14),
-        lists::part(words, ends, 15),
-        lists::part(words, ends, 16),
-        first,
-        ws,
-    )
-}
-
-fn on_maps(
-    call: u32,
-    words: &[u32],
-    ends: &[u32],
-    wd: u32,
-    xd: u32,
-    ws: &mut [u32],
-    word: &mut u32,
-) -> u32 {
-    compare(
-        call,
-        lists::part(words, ends, 12),
-        wd,
-        lists::part(words, ends, 13),
-        xd,
-        ws,
-        word,
-    )
-}
-
-fn on_offsets(
-    call: u32,
-    words: &[u32],
-    ends: &[u32],
-    i: u32,
-    first: &mut [u32],
-    word: &mut u32,
-) -> u32 {
-    look_up(
-        call,
-        lists::part(words, ends, 14),
-        lists::part(words, ends, 15),
-        i,
-        first,
-        word,
-    )
-}
-
-// The two calls on two drawings and the maps between them.
-fn validate(words: &[u32], ends: &[u32], wd: u32, xd: u32) -> u32 {
-    exports::tiwelzam_validate(
-        lists::part(words, ends, 6),
-        lists::part(words, ends, 7),
-        lists::part(words, ends, 8),
-        lists::part(words, ends, 9),
-        lists::part(words, ends, 10),
-        lists::part(words, ends, 11),
-        lists::part(words, ends, 0),
-        lists::part(words, ends, 1),
-        lists::part(words, ends, 2),
-        lists::part(words, ends, 3),
-        lists::part(words, ends, 4),
-        lists::part(words, ends, 5),
-        lists::part(words, ends, 12),
-        wd,
-        lists::part(words, ends, 13),
-        xd,
-    )
-}
-
-fn is_convex(words: &[u32], ends: &[u32], wd: u32, xd: u32, ws: &mut [u32], word: &mut u32) -> u32 {
-    exports::tiwelzam_is_convex_subgraph(
-        lists::part(words, ends, 6),
-        lists::part(words, ends, 7),
-        lists::part(words, ends, 8),
-        lists::part(words, ends, 9),
-        lists::part(words, ends, 10),
-        lists::part(words, ends, 11),
-        lists::part(words, ends, 0),
-        lists::part(words, ends, 1),
-        lists::part(words, ends, 2),
-        lists::part(words, ends, 3),
-        lists::part(words, ends, 4),
-        lists::part(words, ends, 5),
-        lists::part(words, ends, 12),
-        wd,
-        lists::part(words, ends, 13),
-        xd,
-        ws,
-        word,
-    )
-}
-
-// The call that a case's first number names; its refusal's number, 0 for none.
-pub(crate) fn call(
-    numbers: &[u32],
-    words: &[u32],
-    ends: &[u32],
-    first: &mut [u32],
-    second: &mut [u32],
-    third: &mut [u32],
-    ws: &mut [u32],
-    word: &mut u32,
-) -> u32 {
-    let call = lists::at(numbers, 0);
-    let wd = lists::at(numbers, 1);
-    let xd = lists::at(numbers, 2);
-    match call {
-        2 | 16 => on_maps(call, words, ends, wd, xd, ws, word),
-        3 | 18 => on_boundary(call, words, ends, first, ws),
-        4 | 5 | 6 | 7 | 11 => on_tables(call, words, ends, first, second, ws),
-        12 => on_layers(words, ends, first, second, third, ws),
-        13 | 14 => on_offsets(call, words, ends, lists::at(numbers, 3), first, word),
-        15 => validate(words, ends, wd, xd),
-        17 => is_convex(words, ends, wd, xd, ws, word),
-        _ => on_drawing(call, words, ends, ws, word),
+impl Call {
+    // Makes the call on the lists of a case; its refusal's number, 0 for none.
+    fn make(self, case: &Case, lent: Lent) -> u32 {
+        let drawing = case.lists(0);
+        let Lists {
+            w,
+            x,
+            sl,
+            sv,
+            tl,
+            tv,
+        } = drawing;
+        let maps = case.maps();
+        let Maps { fw, wd, fx, xd } = maps;
+        let inputs = case.list(14);
+        let outputs = case.list(15);
+        let values = case.list(16);
+        let Lent {
+            first,
+            second,
+            third,
+            ws,
+            word,
+        } = lent;
+        match self {
+            Call::CheckDrawing => tiwelzam_check_drawing(w, x, sl, sv, tl, tv),
+            Call::CheckMaps => tiwelzam_check_maps(fw, wd, fx, xd),
+            Call::CheckBoundary => tiwelzam_check_boundary(w, x, sl, sv, tl, tv, inputs, outputs),
+            Call::SourceConverse => tiwelzam_source_converse(
+                w, x, sl, sv, tl, tv, first, second, ws,
+            ),
+            Call::TargetConverse => tiwelzam_target_converse(
+                w, x, sl, sv, tl, tv, first, second, ws,
+            ),
+            Call::NodeAdjacency => tiwelzam_node_adjacency(w, x, sl, sv, tl, tv, first, second, ws),
+            Call::OperationAdjacency => tiwelzam_operation_adjacency(
+                w, x, sl, sv, tl, tv, first, second, ws,
+            ),
+            Call::NodeAdjacencySize => tiwelzam_node_adjacency_size(w, x, sl, sv, tl, tv, word),
+            Call::OperationAdjacencySize => tiwelzam_operation_adjacency_size(
+                w, x, sl, sv, tl, tv, word,
+            ),
+            Call::IsAcyclic => tiwelzam_is_acyclic(w, x, sl, sv, tl, tv, ws, word),
+            Call::Layer => tiwelzam_layer(w, x, sl, sv, tl, tv, first, second, ws),
+            Call::LayeredOperations => tiwelzam_layered_operations(
+                w, x, sl, sv, tl, tv, first, second, third, ws,
+            ),
+            Call::OffsetsSound => tiwelzam_offsets_sound(inputs, outputs, word),
+            Call::LayerAt => layer_at(inputs, outputs, case.number(3), first, word),
+            Call::Validate => validate(case.lists(6), drawing, maps),
+            Call::IsMonomorphism => tiwelzam_is_monomorphism(fw, wd, fx, xd, ws, word),
+            Call::IsConvexSubgraph => is_convex(case.lists(6), drawing, maps, ws, word),
+            Call::Eval => tiwelzam_eval(w, x, sl, sv, tl, tv, inputs, outputs, values, first, ws),
+        }
     }
+}
+
+// Makes the call that a case's first number names; a number that names none stands for `IsAcyclic`, as 10 does.
+pub(crate) fn make(case: &Case, lent: Lent) -> u32 {
+    Call::try_from(case.number(0))
+        .unwrap_or(Call::IsAcyclic)
+        .make(case, lent)
 }

@@ -15,91 +15,77 @@
 #![tactic(auto)]
 
 mod call;
-mod lists;
+mod case;
 mod show;
 
-use lines::line_end;
+use call::Lent;
+use case::Case;
 use std::io;
 
-// Makes the call and prints what it gives and leaves, in so much of this memory as the case lends.
-fn run_in(
-    rt: &impl Print,
-    numbers: &[u32],
-    words: &[u32],
-    ends: &[u32],
-    first: &mut [u32],
-    second: &mut [u32],
-    third: &mut [u32],
-    workspace: &mut [u32],
-) -> io::Result<()> {
-    let mut word: u32 = 777;
-    let a = lists::room(numbers, 4, first.len());
-    let b = lists::room(numbers, 5, second.len());
-    let c = lists::room(numbers, 6, third.len());
-    let d = lists::room(numbers, 7, workspace.len());
-    let refusal = call::call(
-        numbers,
-        words,
-        ends,
-        &mut first[..a],
-        &mut second[..b],
-        &mut third[..c],
-        &mut workspace[..d],
-        &mut word,
-    );
+// How many words there are of each output, and of workspace.
+const OUTPUT: usize = 512;
+
+const WORKSPACE: usize = 4608;
+
+// Makes the call and prints what it gives and leaves. All memory that it lends holds 777.
+fn run_case(rt: &impl Print, case: &Case) -> io::Result<()> {
+    let mut first = [777; OUTPUT];
+    let mut second = [777; OUTPUT];
+    let mut third = [777; OUTPUT];
+    let mut workspace = [777; WORKSPACE];
+    let mut word = 777;
+    let first = &mut first[..case.room(4, OUTPUT)];
+    let second = &mut second[..case.room(5, OUTPUT)];
+    let third = &mut third[..case.room(6, OUTPUT)];
+    let workspace = &mut workspace[..case.room(7, WORKSPACE)];
+    let lent = Lent {
+        first,
+        second,
+        third,
+        ws: workspace,
+        word: &mut word,
+    };
+    let refusal = call::make(case, lent);
     show::answer(rt, refusal, word)?;
-    show::words(rt, &first[..a])?;
-    show::words(rt, &second[..b])?;
-    show::words(rt, &third[..c])?;
-    show::workspace(rt, &workspace[..d])
+    show::words(rt, first)?;
+    show::words(rt, second)?;
+    show::words(rt, third)?;
+    show::workspace(rt, workspace)
 }
 
-// Runs the case whose numbers these are. All memory that it lends holds 777.
+// Runs the case whose numbers these are.
 fn run(rt: &impl Print, numbers: &[u32]) -> io::Result<()> {
-    let mut words = [0u32; 32768];
-    let mut ends = [0u32; 17];
-    lists::lay_out(numbers, &mut words, &mut ends);
-    let mut first = [777u32; 512];
-    let mut second = [777u32; 512];
-    let mut third = [777u32; 512];
-    let mut workspace = [777u32; 4608];
-    run_in(
-        rt,
+    let mut words = [0; 32768];
+    let mut ends = [0; case::LISTS];
+    case::lay_out(numbers, &mut words, &mut ends);
+    let case = Case {
         numbers,
-        &words,
-        &ends,
-        &mut first,
-        &mut second,
-        &mut third,
-        &mut workspace,
-    )
+        words: &words,
+        ends: &ends,
+    };
+    run_case(rt, &case)
 }
 
 // A line, with its end: a title or a case.
 fn run_line(rt: &impl Print, line: &[u8]) -> io::Result<()> {
-    if line.len() == 0 {
-        return Ok(());
-    }
-    if line[0] == 35 {
+    if line.starts_with(b"#") {
         return rt.write_all(line);
     }
-    let mut numbers = [0u32; 8192];
-    let count = lists::numbers(line, &mut numbers);
+    let mut numbers = [0; 8192];
+    let count = case::numbers(line, &mut numbers);
     run(rt, &numbers[..count])
 }
 
+// Runs each line, with its end.
 fn run_all(rt: &impl Print, input: &[u8]) -> io::Result<()> {
-    let mut at = 0;
-    while at < input.len() {
-        let end = line_end(input, at);
-        run_line(rt, &input[at..end])?;
-        at = end;
+    for line in input.split_inclusive(|byte| *byte == b'\n') {
+        run_line(rt, line)?;
     }
     Ok(())
 }
 
 fn main(rt: HostRuntime) -> io::Result<()> {
-    let mut input = [0u8; 262144];
+    let mut input = [0; 262144];
     let n = reading::read_full(&mut rt.stdin(), &mut input)?;
     run_all(&rt, &input[..n])
 }

@@ -42,6 +42,7 @@ pub mod Decide
 -- Refusals: what is accepted, which number comes first, what is left in lent memory
 pub mod Accepts
 pub mod Naturality
+pub mod Carried
 pub mod ArrowInputs
 pub mod Refusing
 pub mod Verdicts
@@ -66,14 +67,9 @@ pub mod LayerCalls
 pub mod Lookup
 pub mod LookupFace
 -- Maps and convexity
-pub mod Carried
 pub mod Monomorphism
 pub mod Search
-pub mod Searching
 pub mod Roads
-pub mod Unselected
-pub mod TwoTables
-pub mod RoadDecides
 pub mod ConvexDecides
 -- Evaluation
 pub mod Operating

@@ -4,50 +4,46 @@ use Rattle.std.specs.Prelude.{ℕ, Bool, ◌&&◌, cond, List, ◌≡◌, length
 use Rattle.rules.specs.Lists.{at, seg}
 use Rattle.rules.specs.Analysis.{sound, layer_part}
 use Rattle.rules.specs.Promises.{OffsetsSound}
-use Rattle.rules.specs.Refusals.{refusal_of, verdict_refusal, size_refusal}
-use Rattle.rules.specs.declared.Done.{Done}
-use Rattle.rules.specs.declared.Verdict.{Verdict}
-use Rattle.rules.specs.declared.Verdict.TheVariants.{Yes, No, Refused}
-use Rattle.rules.specs.declared.Size.{Size}
-use Rattle.rules.specs.declared.Size.TheVariants.{Entries, Unsized}
+use Rattle.rules.specs.Refusals.{refusal_of}
+use Rattle.std.specs.Prelude.{Result, Ok, Err}
+use Rattle.rules.specs.declared.Refusal.{Refusal}
 
 -- of a call that checks or writes, and promises P of its answer: r is the number returned
-pub record DoneFace (P : Done → Type 0) (r : ℕ) : Type 0 where
-  pub answer : Done
+pub record DoneFace (P : Result Unit Refusal → Type 0) (r : ℕ) : Type 0 where
+  pub answer : Result Unit Refusal
   pub promise : P answer
   pub number : r ≡ refusal_of answer
 
 -- of a call that decides: 1 for yes, 0 for no, the word as it was where the call is refused
-abbrev pub verdict_word : Verdict → ℕ → ℕ
-verdict_word Yes word = 1
-verdict_word No word = 0
-verdict_word (Refused why) word = word
+abbrev pub verdict_word : Result Bool Refusal → ℕ → ℕ
+verdict_word (Ok decided) word = cond decided 1 0
+verdict_word (Err why) word = word
 
-pub record VerdictFace (P : Verdict → Type 0) (word word' r : ℕ) : Type 0 where
-  pub answer : Verdict
+pub record VerdictFace (P : Result Bool Refusal → Type 0) (word word' r : ℕ) : Type 0 where
+  pub answer : Result Bool Refusal
   pub promise : P answer
-  pub number : r ≡ verdict_refusal answer
+  pub number : r ≡ refusal_of answer
   pub told : word' ≡ verdict_word answer word
 
 -- of a call that says how much room is needed
-abbrev pub size_word : Size → ℕ → ℕ
-size_word (Entries k) word = k
-size_word (Unsized why) word = word
+abbrev pub size_word : Result ℕ Refusal → ℕ → ℕ
+size_word (Ok k) word = k
+size_word (Err why) word = word
 
-pub record SizeFace (P : Size → Type 0) (word word' r : ℕ) : Type 0 where
-  pub answer : Size
+pub record SizeFace (P : Result ℕ Refusal → Type 0) (word word' r : ℕ) : Type 0 where
+  pub answer : Result ℕ Refusal
   pub promise : P answer
-  pub number : r ≡ size_refusal answer
+  pub number : r ≡ refusal_of answer
   pub told : word' ≡ size_word answer word
 
 -- what is told of a verdict alone
-pub record Told (answer : Verdict) (word word' r : ℕ) : Type 0 where
-  pub number : r ≡ verdict_refusal answer
+pub record Told (answer : Result Bool Refusal) (word word' r : ℕ) : Type 0 where
+  pub number : r ≡ refusal_of answer
   pub told : word' ≡ verdict_word answer word
 
 -- what is told of a size alone
-pub record Measured (answer : Size) (word word' r : ℕ) : Type 0 where
-  pub number : r ≡ size_refusal answer
+pub record Measured (answer : Result ℕ Refusal) (word word' r : ℕ) : Type 0 where
+  pub number : r ≡ refusal_of answer
   pub told : word' ≡ size_word answer word
 
 -- of the offset test: 1 for sound, 0 for not; it never refuses

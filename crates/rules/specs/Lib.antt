@@ -1,5 +1,6 @@
 pub mod Lists
 pub mod Drawing
+pub mod Lent
 pub mod Graph
 pub mod Analysis
 pub mod Maps

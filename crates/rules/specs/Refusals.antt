@@ -5,12 +5,7 @@ use Rattle.rules.specs.Drawing.{Drawing, Maps, Boundary, most_items, most_values
 use Rattle.rules.specs.Maps.{nodes_of, ops_of}
 use Rattle.rules.specs.declared.Refusal.{Refusal}
 use Rattle.rules.specs.declared.Refusal.TheVariants.{OverLimit, BadLengths, BadValue, BadEntry, TypeMismatchW, TypeMismatchX, NotNaturalW, NotNaturalX, NotNaturalS, NotNaturalT, ShortRoom, BadBoundary, Unplaced, WrongOperation, BadText}
-use Rattle.rules.specs.declared.Done.{Done}
-use Rattle.rules.specs.declared.Done.TheVariants.{Fine, Faulty}
-use Rattle.rules.specs.declared.Verdict.{Verdict}
-use Rattle.rules.specs.declared.Verdict.TheVariants.{Yes, No, Refused}
-use Rattle.rules.specs.declared.Size.{Size}
-use Rattle.rules.specs.declared.Size.TheVariants.{Entries, Unsized}
+use Rattle.std.specs.Prelude.{Result, Ok, Err}
 
 -- 01's number of each refusal
 abbrev pub number : Refusal → ℕ
@@ -31,18 +26,9 @@ number WrongOperation = 14
 number BadText = 15
 
 -- the number that an answer gives, 0 for none
-abbrev pub refusal_of : Done → ℕ
-refusal_of Fine = 0
-refusal_of (Faulty r) = number r
-
-abbrev pub verdict_refusal : Verdict → ℕ
-verdict_refusal Yes = 0
-verdict_refusal No = 0
-verdict_refusal (Refused r) = number r
-
-abbrev pub size_refusal : Size → ℕ
-size_refusal (Entries k) = 0
-size_refusal (Unsized r) = number r
+abbrev pub refusal_of : {A : Type 0} → Result A Refusal → ℕ
+refusal_of (Ok given) = 0
+refusal_of (Err why) = number why
 
 -- A call's refusal is the first number of a list that is not 0, the list standing in 01's order.
 abbrev pub or_else : ℕ → ℕ → ℕ

@@ -6,113 +6,84 @@
 
 ghost use Rattle.std.specs.Prelude.{◌≤◌, ◌<◌, length, IfOk};
 
-use lines::{least, line_end};
+use lines::line_end;
 use std::io;
 
-// The number that five digits stand for, at most 65537; 0 where they are not there.
-fn number_at(input: &[u8], at: usize) -> usize
-    requires { at ≤ length input.now }
+// One byte more than a text may have.
+const ROOM: usize = 65537;
+
+// The number that five digits stand for at the front of these bytes, at most `ROOM`; 0 where they are not there.
+fn number(bytes: &[u8]) -> usize
     ensures { result ≤ 65537 }
 {
+    let Some(digits) = bytes.first_chunk::<5>() else {
+        return 0;
+    };
     let mut n = 0;
-    let mut i = 0;
-    while i < 5 {
-        if input.len() - at <= i {
+    for digit in digits {
+        if !digit.is_ascii_digit() {
             return 0;
         }
-        let b = input[at + i];
-        if b < 48 {
-            return 0;
-        }
-        if 57 < b {
-            return 0;
-        }
-        n = least(10 * n + (b - 48) as usize, 65537);
-        i += 1;
+        n = (10 * n + (*digit - b'0') as usize).min(ROOM);
     }
     n
 }
 
-// Copies bytes to the front of a text, as many as it holds.
-fn copy(bytes: &[u8], text: &mut [u8]) -> usize
-    ensures { result ≤ length text.new }
+// Makes a text of these bytes, the last of which is to stand so often, as far as the room holds it; how long it is.
+fn lengthen(bytes: &[u8], times: usize, room: &mut [u8]) -> usize
+    ensures { result ≤ length room.new }
 {
-    let n = least(bytes.len(), text.len());
-    let mut i = 0;
-    while i < n {
-        text[i] = bytes[i];
-        i += 1;
-    }
-    n
-}
-
-// Writes a byte behind the first n, so often, as far as the text holds it.
-fn repeat(text: &mut [u8], n: usize, byte: u8, times: usize) -> usize
-    requires { n ≤ length text.old }
-    ensures { result ≤ length text.new }
-{
-    let end = n + least(times, text.len() - n);
-    let mut i = n;
-    while i < end {
-        text[i] = byte;
-        i += 1;
-    }
+    let n = bytes.len().min(room.len());
+    room[..n].copy_from_slice(&bytes[..n]);
+    let Some(last) = bytes.last() else {
+        return n;
+    };
+    let end = n + times.saturating_sub(1).min(room.len() - n);
+    room[n..end].fill(*last);
     end
-}
-
-// Makes a text of these bytes, the last of which is to stand so often.
-fn lengthen(bytes: &[u8], times: usize, text: &mut [u8]) -> usize
-    ensures { result ≤ length text.new }
-{
-    let n = copy(bytes, text);
-    let all = bytes.len();
-    if all == 0 {
-        return n;
-    }
-    if times == 0 {
-        return n;
-    }
-    repeat(text, n, bytes[all - 1], times - 1)
 }
 
 // Writes the answer to one text.
 fn run(rt: &impl Print, bytes: &[u8], times: usize) -> io::Result<()> {
-    let mut text = [0u8; 65537];
-    let n = lengthen(bytes, times, &mut text);
-    let mut out = [0u8; 16384];
-    let r = answer::answer(&text[..n], &mut out);
-    rt.write_all(&out[..r])
+    let mut room = [0; ROOM];
+    let n = lengthen(bytes, times, &mut room);
+    let mut out = [0; 16384];
+    let written = answer::answer(&room[..n], &mut out);
+    rt.write_all(&out[..written])
 }
 
-// Runs the text whose line stands at a place; the place behind it.
-fn run_at(rt: &impl Print, input: &[u8], at: usize) -> io::Result<usize>
-    requires { at < length input.now }
-    ensures { IfOk result (λ next. at < next) }
+// Runs the text whose line stands at the front of the input; what stands behind it.
+fn run_first<'a>(rt: &impl Print, input: &'a [u8]) -> io::Result<&'a [u8]>
+    requires { 0 < length input.now }
+    ensures { IfOk result (λ rest. length rest.now < length input.now) }
 {
-    let start = line_end(input, at);
-    rt.write_all(&input[at..start])?;
-    let count = number_at(input, at);
-    if input.len() - start < count {
-        return Ok(input.len());
+    let start = line_end(input, 0);
+    let (line, rest) = input.split_at(start);
+    rt.write_all(line)?;
+    let count = number(input);
+    if rest.len() < count {
+        return Ok(&[]);
     }
-    let end = start + count;
-    if start - at < 6 {
-        return Ok(start);
+    if line.len() < 6 {
+        return Ok(rest);
     }
-    run(rt, &input[start..end], number_at(input, at + 6))?;
-    Ok(end + 1)
+    let (text, behind) = rest.split_at(count);
+    run(rt, text, number(&input[6..]))?;
+    Ok(behind.get(1..).unwrap_or(&[]))
 }
 
+// Runs the texts, one behind the other.
 fn run_all(rt: &impl Print, input: &[u8]) -> io::Result<()> {
-    let mut at = 0;
-    while at < input.len() {
-        at = run_at(rt, input, at)?;
+    let mut rest = input;
+    // Stays: the new form is no plainer. How far a turn goes is what the text's own line says, which no range or iterator knows.
+    while !rest.is_empty() {
+        rest = run_first(rt, rest)?;
     }
     Ok(())
 }
 
 fn main(rt: HostRuntime) -> io::Result<()> {
-    let mut input = [0u8; 65536];
+    let mut input = [0; 65536];
     let n = reading::read_full(&mut rt.stdin(), &mut input)?;
     run_all(&rt, &input[..n])
 }

@@ -1,37 +1,37 @@
-use Rattle.std.proofs.Common.{ltb-true, ltb-false, ltb, length, get_or, drop, length-set, arith, Bool, true, false, List, ◌≡◌, refl, sym, ◌∙◌, ℕ, ◌≤◌, ◌<◌, ◌-◌, ◌+◌, min}
+use Rattle.std.proofs.Common.{List, ◌≡◌, ℕ, ◌<◌, length, get_or, drop, min, sym, ◌∙◌, arith}
+use Rattle.std.proofs.lemmas.Slice.Zip.{zip_turn, zip_end}
+use Rattle.std.proofs.lemmas.List.{length_push}
+use Rattle.rules.specs.Evaluation.{store_all}
 use Rattle.rules.proofs.Facts.Evaluating.{store_more, store_end, store_out}
 use Rattle.rules.proofs.Facts.Member.{get_or-∈}
-use Rattle.rules.specs.Evaluation.{store_all}
-use Rattle.memory.proofs.scatter.Goals.{Start}
+use Rattle.memory.proofs.scatter.Goals.{In-Some}
 use Rattle.memory.proofs.scatter.Goals as goal
 
-module _ (s : Start) where
-  abbrev places : List ℕ
-  places = s.args.places.now
+-- this turn's pair: the place and the value number i
+module _ (c : In-Some) where
+  abbrev i : ℕ
+  i = length c.loop-place.yielded
 
-  abbrev values : List ℕ
-  values = s.args.values.now
+  turn : (i < length c.args.places.now) × (i < length c.args.values.now) × ((d : ℕ) → c.in-Some.place.now ≡ get_or c.args.places.now i d) × ((d : ℕ) → c.in-Some.value.now ≡ get_or c.args.values.now i d)
+  turn = zip_turn c.args.places.now c.args.values.now c.loop-place.yielded c.into_iter-place-iterator.result c.loop-place.place-iterator c.next.new.self c.next.result (cc) (cc) c.loop-place.yielded_by (c.in-Some.place, c.in-Some.value) c.in-Some.is c.next.ensures.steps
 
-  inside : (i : ℕ) → i < length places → get_or places i 0 < length s.args.memory.now
-  inside i h = s.requires (get_or places i 0) (get_or-∈ places i h)
+pub loop-place-preserved : goal.loop-place-preserved
+loop-place-preserved c =
+    let s = (goal.at.loop-place-preserved c).In-Some in
+    rw (length_push c.loop-place.yielded (c.in-Some.place, c.in-Some.value), (turn s).2 0, (turn s).3 0)
+    (sym (store_more c.args.places.now c.args.values.now c.loop-place.memory (i s) (turn s).0 (turn s).1) ∙ c.loop-place.invariant)
 
-  -- at the end of the shorter list nothing is left to store
-  stop : (memory : List ℕ) (i : ℕ) → min (length places) (length values) ≤ i → store_all (drop i places) (drop i values) memory ≡ memory
-  stop memory i h = go (ltb (length values) (length places)) refl
-    where
-      go : (b : Bool) → ltb (length values) (length places) ≡ b → store_all (drop i places) (drop i values) memory ≡ memory
-      go true e = let l = ltb-true (length values) (length places) e in store_out places values memory i (omega arith)
-      go false e = let l = ltb-false (length values) (length places) e in store_end places values memory i (omega arith)
+-- at the end of the shorter list nothing is left to store
+stop : (places values memory : List ℕ) (i : ℕ) → i ≡ min (length places) (length values) → store_all (drop i places) (drop i values) memory ≡ memory
+stop places values memory i e = grind (arith, store_end, store_out)
 
-pub bounds-memory-places : goal.bounds-memory-places
-bounds-memory-places c = rw c.loop-left.invariant.1 (inside (goal.at.bounds-memory-places c).Start _ (omega arith))
-
-pub loop-left-preserved : goal.loop-left-preserved
-loop-left-preserved c =
-    let i : ℕ = c.shorter-count.result - c.loop-left.left in
-    let next : c.shorter-count.result - (c.loop-left.left - 1) ≡ i + 1 = omega arith in
-    (omega arith, simp length-set c.loop-left.invariant.1, rw next (sym (store_more (places (goal.at.loop-left-preserved c).Start) (values (goal.at.loop-left-preserved c).Start) c.loop-left.memory i (omega arith) (omega arith)) ∙ c.loop-left.invariant.2))
+pub bounds-memory-place : goal.bounds-memory-place
+bounds-memory-place c =
+    let s = (goal.at.bounds-memory-place c).In-Some in
+    let below : c.in-Some.place.now < length c.loop-place.memory = rw ((turn s).2 0, c.loop-place.auto.memory) (c.requires _ (get_or-∈ c.args.places.now (i s) (turn s).0)) in
+    below
 
 pub returns : goal.returns
 returns c =
-    sym (stop (goal.at.returns c).Start c.loop-left.memory (c.shorter-count.result - c.loop-left.left) (omega arith)) ∙ c.loop-left.invariant.2
+    let end = zip_end c.args.places.now c.args.values.now c.loop-place.yielded c.into_iter-place-iterator.result c.loop-place.place-iterator c.next.new.self c.next.result (cc) (cc) c.loop-place.yielded_by c.in-None.is c.next.ensures.steps in
+    sym (stop c.args.places.now c.args.values.now c.loop-place.memory (length c.loop-place.yielded) end) ∙ c.loop-place.invariant

@@ -1,5 +1,6 @@
 use Rattle.std.proofs.Common.{ℕ, ◌+◌, ◌-◌, ◌*◌, arith, List, ◌≡◌, length, get_or, take, drop}
-use Rattle.rules.specs.Drawing.{Drawing, drawing, sources_of}
+use Rattle.rules.specs.Lent.{drawing_of}
+use Rattle.rules.specs.Drawing.{Drawing, sources_of}
 use Rattle.rules.specs.Inner.Running.{outputs_at}
 use Rattle.rules.proofs.Facts.Running.{Sizes, sizes, part_slice, work_asks, reads_one}
 use Rattle.pass.proofs.read_one.Goals.{Start}
@@ -7,25 +8,25 @@ use Rattle.pass.proofs.read_one.Goals as goal
 
 module _ (s : Start) where
   abbrev d : Drawing
-  d = drawing s.args.w.now s.args.x.now s.args.sl.now s.args.sv.now s.args.tl.now s.args.tv.now
+  d = drawing_of s.args.d.now
 
   known : Sizes d s.args.ws.now s.args.e
   known = sizes d s.args.ws.now s.requires.runs s.args.e s.requires.e_in_bounds
 
   abbrev source_start : ℕ
-  source_start = get_or s.args.ws.now (4 * length s.args.x.now + 1 + s.args.e) 0
+  source_start = get_or s.args.ws.now (4 * length s.args.d.now.ops.now + 1 + s.args.e) 0
 
   abbrev target_start : ℕ
-  target_start = get_or s.args.ws.now (5 * length s.args.x.now + 1 + s.args.e) 0
+  target_start = get_or s.args.ws.now (5 * length s.args.d.now.ops.now + 1 + s.args.e) 0
 
   abbrev places : List ℕ
-  places = take (source_start + get_or s.args.sl.now s.args.e 0 - source_start) (drop source_start s.args.sv.now)
+  places = take (source_start + get_or s.args.d.now.sources.lengths.now s.args.e 0 - source_start) (drop source_start s.args.d.now.sources.values.now)
 
   places-are : places ≡ sources_of d s.args.e
-  places-are = part_slice s.args.sl.now s.args.sv.now s.args.e source_start known.source_start
+  places-are = part_slice s.args.d.now.sources.lengths.now s.args.d.now.sources.values.now s.args.e source_start known.source_start
 
   abbrev from : ℕ
-  from = 6 * length s.args.x.now + 1 + length s.args.w.now + target_start
+  from = 6 * length s.args.d.now.ops.now + 1 + length s.args.d.now.nodes.now + target_start
 
   from_is : from ≡ outputs_at d s.args.e
   from_is = omega (arith, known)

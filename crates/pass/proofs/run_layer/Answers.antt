@@ -1,11 +1,12 @@
 use Rattle.rules.proofs.Facts.Running.{read_runs, read_ready, read_stored}
-use Rattle.rules.specs.Drawing.{Drawing, drawing}
+use Rattle.rules.specs.Lent.{drawing_of}
+use Rattle.rules.specs.Drawing.{Drawing}
 use Rattle.pass.proofs.run_layer.Goals.{Start}
 use Rattle.pass.proofs.run_layer.Goals as goal
 
 module _ (s : Start) where
   abbrev d : Drawing
-  d = drawing s.args.w.now s.args.x.now s.args.sl.now s.args.sv.now s.args.tl.now s.args.tv.now
+  d = drawing_of s.args.d.now
 
 pub store_layer-requires-clause-runs : goal.store_layer-requires-clause-runs
 store_layer-requires-clause-runs c = read_runs (d (goal.at.store_layer-requires-clause-runs c).Start) c.args.lo c.args.hi c.args.ws.now c.read_layer.new.ws c.requires.runs c.read_layer.ensures

@@ -1,20 +1,21 @@
-use Rattle.std.proofs.Common.{get_or, arith, refl, ◌+◌, ◌*◌, ◌≤◌}
+use Rattle.std.proofs.Common.{get_or, refl, ◌+◌, ◌*◌, ◌≤◌}
+use Rattle.rules.specs.Lent.{drawing_of}
 use Rattle.rules.proofs.Facts.Running.{ran_runs, ran_next, ran_end, offsets_rise}
 use Rattle.rules.specs.Inner.Running.{Runs}
-use Rattle.rules.specs.Drawing.{Drawing, drawing, op_count}
+use Rattle.rules.specs.Drawing.{Drawing, op_count}
 use Rattle.pass.proofs.run_layers.Goals.{In-loop-i, Start}
 use Rattle.pass.proofs.run_layers.Goals as goal
 
 module _ (s : Start) where
   abbrev d : Drawing
-  d = drawing s.args.w.now s.args.x.now s.args.sl.now s.args.sv.now s.args.tl.now s.args.tv.now
+  d = drawing_of s.args.d.now
 
 module _ (c : In-loop-i) where
   abbrev d-2 : Drawing
-  d-2 = drawing c.args.w.now c.args.x.now c.args.sl.now c.args.sv.now c.args.tl.now c.args.tv.now
+  d-2 = drawing_of c.args.d.now
 
   runs : Runs d-2 c.loop-i.ws
-  runs = ran_runs d-2 c.args.ws.now c.requires c.loop-i.ws c.loop-i.i c.loop-i.invariant.1
+  runs = ran_runs d-2 c.args.ws.now c.requires c.loop-i.ws c.loop-i.i c.loop-i.invariant
 
   rise : (get_or c.loop-i.ws (3 * op_count d-2 + c.loop-i.i) 0 ≤ get_or c.loop-i.ws (3 * op_count d-2 + c.loop-i.i + 1) 0) × (get_or c.loop-i.ws (3 * op_count d-2 + c.loop-i.i + 1) 0 ≤ op_count d-2)
   rise = offsets_rise d-2 c.loop-i.ws runs c.loop-i.i c.loop-i-test.true
@@ -26,7 +27,7 @@ pub run_layer-requires-clause-lo_le_hi : goal.run_layer-requires-clause-lo_le_hi
 run_layer-requires-clause-lo_le_hi c = rise (goal.at.run_layer-requires-clause-lo_le_hi c).In-loop-i
 
 pub loop-i-preserved : goal.loop-i-preserved
-loop-i-preserved c = (omega arith, ran_next (d (goal.at.loop-i-preserved c).Start) c.args.ws.now c.requires c.loop-i.ws c.loop-i.i c.loop-i.invariant.1 c.run_layer.new.ws _ _ c.loop-i-test.true refl refl c.run_layer.ensures)
+loop-i-preserved c = ran_next (d (goal.at.loop-i-preserved c).Start) c.args.ws.now c.requires c.loop-i.ws c.loop-i.i c.loop-i.invariant c.run_layer.new.ws _ _ c.loop-i-test.true refl refl c.run_layer.ensures
 
 pub returns : goal.returns
-returns c = ran_end (d (goal.at.returns c).Start) c.args.ws.now c.requires c.loop-i.ws c.loop-i.i c.loop-i.invariant.1 c.loop-i-test.false
+returns c = ran_end (d (goal.at.returns c).Start) c.args.ws.now c.requires c.loop-i.ws c.loop-i.i c.loop-i.invariant c.loop-i-test.false

@@ -1,5 +1,6 @@
 use Rattle.std.proofs.Common.{ℕ, ◌+◌, ◌-◌, ◌*◌, arith, List, ◌≡◌, length, get_or, take, drop}
-use Rattle.rules.specs.Drawing.{Drawing, drawing, targets_of}
+use Rattle.rules.specs.Lent.{drawing_of}
+use Rattle.rules.specs.Drawing.{Drawing, targets_of}
 use Rattle.rules.specs.Inner.Running.{outputs_at}
 use Rattle.rules.proofs.Facts.Running.{Sizes, sizes, part_slice, scatter_asks, scattered_one}
 use Rattle.pass.proofs.store_one.Goals.{Start}
@@ -7,22 +8,22 @@ use Rattle.pass.proofs.store_one.Goals as goal
 
 module _ (s : Start) where
   abbrev d : Drawing
-  d = drawing s.args.w.now s.args.x.now s.args.sl.now s.args.sv.now s.args.tl.now s.args.tv.now
+  d = drawing_of s.args.d.now
 
   known : Sizes d s.args.ws.now s.args.e
   known = sizes d s.args.ws.now s.requires.runs s.args.e s.requires.e_in_bounds
 
   abbrev target_start : ℕ
-  target_start = get_or s.args.ws.now (5 * length s.args.x.now + 1 + s.args.e) 0
+  target_start = get_or s.args.ws.now (5 * length s.args.d.now.ops.now + 1 + s.args.e) 0
 
   abbrev places : List ℕ
-  places = take (target_start + get_or s.args.tl.now s.args.e 0 - target_start) (drop target_start s.args.tv.now)
+  places = take (target_start + get_or s.args.d.now.targets.lengths.now s.args.e 0 - target_start) (drop target_start s.args.d.now.targets.values.now)
 
   places-are : places ≡ targets_of d s.args.e
-  places-are = part_slice s.args.tl.now s.args.tv.now s.args.e target_start known.target_start
+  places-are = part_slice s.args.d.now.targets.lengths.now s.args.d.now.targets.values.now s.args.e target_start known.target_start
 
   abbrev from : ℕ
-  from = 6 * length s.args.x.now + 1 + length s.args.w.now + target_start
+  from = 6 * length s.args.d.now.ops.now + 1 + length s.args.d.now.nodes.now + target_start
 
   from_is : from ≡ outputs_at d s.args.e
   from_is = omega (arith, known)

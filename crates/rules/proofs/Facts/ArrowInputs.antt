@@ -2,20 +2,25 @@
 use Prim.Native.Nat.{ℕ, zero, suc, ◌<◌, ◌≤◌}
 use Rattle.std.proofs.Common.{arith, inl, ◌∙◌}
 use Rattle.std.specs.Prelude.{Bool, ◌&&◌, ◌↔◌, ◌≡◌}
-use Rattle.std.proofs.Math.Bool.{true, false}
+use Rattle.std.proofs.Math.Bool.{true}
 use mathlib.Core.List.{List, [], ◌∷◌}
 use Rattle.std.proofs.Math.Path.{refl, sym}
 use Rattle.rules.specs.declared.Refusal.{Refusal}
 use Rattle.rules.specs.Drawing.{Drawing, Maps, Accepted, AcceptedMaps}
-use Rattle.rules.specs.Inner.Arrow.{arrow_inputs_refusal, arrow_lists_refusal}
-use Rattle.rules.specs.Refusals.{bad_lengths, unless, within, maps_within, bad_value, workspace_need, bad_entry, entries_below, first_of, short_room, lengths_fit, values_below, number}
+use Rattle.rules.specs.Inner.Arrow.{arrow_inputs_refusal}
+use Rattle.rules.specs.Refusals.{bad_lengths, unless, within, maps_within, bad_value, workspace_need, bad_entry, entries_below, first_of, short_room, lengths_fit, values_below, number, refusal_of}
 use Rattle.rules.specs.Inner.Checks.{lists_refusal}
 use Rattle.rules.specs.Calls.{maps_refusal, validate_refusal, convex_refusal, natural_refusal}
-use Rattle.rules.proofs.Facts.Refusing.{Early, front_none, first-append, early-first, early-unless, first_behind, enough, short, number-some}
+use Rattle.rules.proofs.Facts.Refusing.{Early, front_none, first-append, early-first, early-unless, first_behind, enough, short, number-some, faulty_number, handed}
 use Rattle.rules.proofs.Facts.Tests.{first-none, both, both_hold, unless-none, none_first, none-unless}
 use Rattle.rules.proofs.Facts.Accepts.{tests_accept, maps_iff, within_holds, lengths_hold, values_hold}
 use Rattle.rules.proofs.Facts.Naturality.{natural_iff}
 use Rattle.rules.specs.Maps.{Natural}
+use Rattle.rules.specs.Promises.{Validate}
+use Rattle.std.specs.Prelude.{Result, Err}
+use Rattle.std.specs.Result.{IsErrAnd}
+use Rattle.rules.specs.Inner.Arrow.{arrow_lists_refusal}
+use Rattle.std.proofs.Math.Bool.{false}
 
 module _ (c d : Drawing) (f : Maps) where
   abbrev all-within : Bool
@@ -45,6 +50,12 @@ module _ (c d : Drawing) (f : Maps) where
       alone : (r : Bool) → first_of (unless r 4 ∷ []) ≡ unless r 4
       alone true = refl
       alone false = refl
+
+  -- the target's lists are refused
+  pub target_refused : (why : Refusal) → all-within ≡ true → lists_refusal c ≡ 0 → number why ≡ lists_refusal d → number why ≡ arrow_inputs_refusal c d f
+  unfolding lists_refusal arrow_inputs_refusal
+  target_refused why w p e =
+      sym (rw w (first_behind (bad_lengths c ∷ bad_value c ∷ []) of_d p ∙ first-append (bad_lengths d ∷ bad_value d ∷ []) (bad_entry f ∷ []) (number why) e (number-some why)))
 
   -- refused with none of 1 to 4
   pub inputs_accepted : arrow_inputs_refusal c d f ≡ 0 → Accepted c × Accepted d × AcceptedMaps f
@@ -98,6 +109,10 @@ module _ (c d : Drawing) (f : Maps) where
       alone : (k : ℕ) → first_of (k ∷ []) ≡ k
       alone zero = refl
       alone (suc k) = refl
+
+  -- a refusal of the inputs that is handed on
+  pub validate_handed : {A : Type 0} {a : Result A Refusal} {why : Refusal} {r : Result Unit Refusal} → refusal_of a ≡ arrow_inputs_refusal c d f → a ≡ Err why → IsErrAnd r (λ y. y ≡ why) → Validate c d f r
+  validate_handed {a = a} {why} e q h = rw (handed h) (record { refusal = sym (validate_early (number why) (faulty_number a why e q) (number-some why)) })
 
   -- refused with none of 1 to 10: valid drawings and maps, and the maps are natural
   pub validate_iff : (validate_refusal c d f ≡ 0) ↔ (Accepted c × Accepted d × AcceptedMaps f × Natural c d f)

@@ -1,9 +1,8 @@
 -- DEMAND 3, over the calls: `is_convex_subgraph` on a group and `is_acyclic` on the folded drawing answer the same.
-use Rattle.std.specs.Prelude.{ℕ, ◌≤◌, List, ◌↔◌, ◌≡◌, length}
+use Rattle.std.specs.Prelude.{ℕ, ◌≤◌, List, ◌↔◌, ◌≡◌, length, Bool}
 use Rattle.std.proofs.Common.{sym, ◌∙◌}
-use Rattle.rules.specs.declared.Verdict.{Verdict}
 use Rattle.rules.specs.Drawing.{Drawing, Maps, Accepted, AcceptedMaps}
-use Rattle.rules.specs.Refusals.{verdict_refusal, workspace_need}
+use Rattle.rules.specs.Refusals.{refusal_of, workspace_need}
 use Rattle.rules.specs.Promises.{IsConvexSubgraph, IsAcyclic}
 use Rattle.rules.specs.Fold.{fold}
 use Rattle.rules.specs.Maps.{nodes_of, ops_of, Natural, Monomorphism, Convex}
@@ -14,13 +13,15 @@ use Rattle.rules.proofs.Facts.ArrowInputs.{convex_enough, accepted_inputs}
 use Rattle.rules.proofs.Facts.Determined.{verdict_same}
 use Rattle.rules.proofs.Facts.FoldDraw.{fold_theorem}
 use Rattle.rules.proofs.Facts.FoldFits.{fold_fits}
+use Rattle.std.specs.Prelude.{Result}
+use Rattle.rules.specs.declared.Refusal.{Refusal}
 
 -- Valid drawings and maps; natural, injective maps; a target without cycles; W words for each call: then neither call is refused, and
 -- whatever meets their promises, the two verdicts are the same.
 pub demand-3 : {c d : Drawing} {f : Maps} → Accepted c → Accepted d → AcceptedMaps f → Natural c d f → Monomorphism f → Acyclic d
     → {ws ws' vs vs' : List ℕ} → workspace_need d ≤ length ws → workspace_need (fold d (nodes_of f) (ops_of f)) ≤ length vs
-    → {r q : Verdict} → IsConvexSubgraph c d f ws ws' r → IsAcyclic (fold d (nodes_of f) (ops_of f)) vs vs' q
-    → (verdict_refusal r ≡ 0) × (verdict_refusal q ≡ 0) × (r ≡ q)
+    → {r q : Result Bool Refusal} → IsConvexSubgraph c d f ws ws' r → IsAcyclic (fold d (nodes_of f) (ops_of f)) vs vs' q
+    → (refusal_of r ≡ 0) × (refusal_of q ≡ 0) × (r ≡ q)
 demand-3 {c} {d} {f} ac ad am natural injective no_cycle {ws} {vs = vs} room room' {r} {q} convex acyclic = (
   taken,
   taken',
@@ -33,8 +34,8 @@ demand-3 {c} {d} {f} ac ad am natural injective no_cycle {ws} {vs = vs} room roo
     same : Convex c d f ↔ Acyclic folded
     same = fold_theorem ac ad natural injective no_cycle
 
-    taken : verdict_refusal r ≡ 0
+    taken : refusal_of r ≡ 0
     taken = convex.refusal ∙ convex_enough c d f (length ws) (accepted_inputs c d f ac ad am) room
 
-    taken' : verdict_refusal q ≡ 0
+    taken' : refusal_of q ≡ 0
     taken' = acyclic.refusal ∙ acyclic_enough folded ((accepted_iff folded).1 (fold_fits ad am natural)) (length vs) room'

@@ -1,14 +1,13 @@
 -- THE C FACES ARE DETERMINED: two runs on the same input show a caller the same number, the same word and the same lent memory.
-use Rattle.std.specs.Prelude.{ℕ, cond, List, ◌≡◌}
+use Rattle.std.specs.Prelude.{ℕ, cond, List, ◌≡◌, Bool}
 use Rattle.std.proofs.Common.{sym, ap, ◌∙◌}
-use Rattle.rules.specs.declared.Done.{Done}
-use Rattle.rules.specs.declared.Verdict.{Verdict}
-use Rattle.rules.specs.declared.Size.{Size}
 use Rattle.rules.specs.Drawing.{Drawing, Maps, Boundary}
-use Rattle.rules.specs.Refusals.{refusal_of, verdict_refusal, size_refusal}
+use Rattle.rules.specs.Refusals.{refusal_of}
 use Rattle.rules.specs.Promises.{CheckDrawing, CheckMaps, CheckBoundary, WritesRows, RowsSize, IsAcyclic, Layer, LayeredOperations, Validate, IsMonomorphism, IsConvexSubgraph, Eval}
 use Rattle.rules.specs.Faces.{DoneFace, VerdictFace, verdict_word, SizeFace, size_word, SoundFace, LayerAtFace}
 use Rattle.rules.proofs.Facts.Determined.{check_drawing_determined, check_maps_determined, check_boundary_determined, validate_determined, writes_rows_determined, rows_size_determined, is_acyclic_determined, layer_determined, layered_operations_determined, offsets_sound_determined, is_monomorphism_determined, is_convex_subgraph_determined, eval_determined}
+use Rattle.std.specs.Prelude.{Result}
+use Rattle.rules.specs.declared.Refusal.{Refusal}
 
 -- THE LAW. P and Q: what a call promises of its answer in two runs. Where they fix the answer, and R with it, then what a face shows of the
 -- answer is fixed, and R with it. R is the lent memory: a face hands out the call's own.
@@ -23,18 +22,18 @@ alone : {A : Type 0} {P Q : A → Type 0} → ((a b : A) → P a → Q b → a �
 alone same a b p q = (same a b p q, tt)
 
 -- as each kind of face shows it
-done : {P Q : Done → Type 0} {R : Type 0} {r q : ℕ} → Fixes P Q R → DoneFace P r → DoneFace Q q → (r ≡ q) × R
+done : {P Q : Result Unit Refusal → Type 0} {R : Type 0} {r q : ℕ} → Fixes P Q R → DoneFace P r → DoneFace Q q → (r ≡ q) × R
 done fix f g = let e = fix f.answer g.answer f.promise g.promise in (shown refusal_of e.0 f.number g.number, e.1)
 
-told : {P Q : Verdict → Type 0} {R : Type 0} {word w₁ w₂ r q : ℕ} → Fixes P Q R → VerdictFace P word w₁ r → VerdictFace Q word w₂ q → (r ≡ q) × (w₁ ≡ w₂) × R
+told : {P Q : Result Bool Refusal → Type 0} {R : Type 0} {word w₁ w₂ r q : ℕ} → Fixes P Q R → VerdictFace P word w₁ r → VerdictFace Q word w₂ q → (r ≡ q) × (w₁ ≡ w₂) × R
 told {word = word} fix f g =
     let e = fix f.answer g.answer f.promise g.promise in
-    (shown verdict_refusal e.0 f.number g.number, shown (λ a. verdict_word a word) e.0 f.told g.told, e.1)
+    (shown refusal_of e.0 f.number g.number, shown (λ a. verdict_word a word) e.0 f.told g.told, e.1)
 
-sized : {P Q : Size → Type 0} {word w₁ w₂ r q : ℕ} → ((a b : Size) → P a → Q b → a ≡ b) → SizeFace P word w₁ r → SizeFace Q word w₂ q → (r ≡ q) × (w₁ ≡ w₂)
+sized : {P Q : Result ℕ Refusal → Type 0} {word w₁ w₂ r q : ℕ} → ((a b : Result ℕ Refusal) → P a → Q b → a ≡ b) → SizeFace P word w₁ r → SizeFace Q word w₂ q → (r ≡ q) × (w₁ ≡ w₂)
 sized {word = word} same f g =
     let e = same f.answer g.answer f.promise g.promise in
-    (shown size_refusal e f.number g.number, shown (λ a. size_word a word) e f.told g.told)
+    (shown refusal_of e f.number g.number, shown (λ a. size_word a word) e f.told g.told)
 
 -- the checks and validation
 pub check_drawing_face : {d : Drawing} {r q : ℕ} → DoneFace (CheckDrawing d) r → DoneFace (CheckDrawing d) q → r ≡ q

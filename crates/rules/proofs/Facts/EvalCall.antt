@@ -9,14 +9,11 @@ use Rattle.std.proofs.Common.{inl, ap, ◌∙◌, take-append-drop}
 use Rattle.std.proofs.Math.Path.{refl, sym}
 use Rattle.std.proofs.Math.ListN.{length, drop, length-take, drop_of_length-le}
 use Rattle.std.proofs.lemmas.List.{length-map, length-replicate}
-use borrow.Author.Tests.{leb-true}
 use Rattle.rules.specs.Lists.{◌∈◌, all, range, has, seg, sum, at}
-use Rattle.rules.specs.Drawing.{Drawing, Boundary, Accepted, op_count, node_count, AcceptedBoundary, most_items}
-use Rattle.rules.specs.declared.Done.{Done}
-use Rattle.rules.specs.declared.Done.TheVariants.{Fine, Faulty}
+use Rattle.rules.specs.Drawing.{Drawing, Boundary, Accepted, op_count, node_count, AcceptedBoundary}
 use Rattle.rules.specs.declared.Refusal.{Refusal}
 use Rattle.rules.proofs.Facts.Segments.{back-length, back-seg-before, back-before, back_in, back-seg, seg-length}
-use Rattle.rules.specs.Inner.Evaluating.{late_refusal, late_by, suits_by, Prepared, early_refusal, Attempted, early_checks, Evaluated}
+use Rattle.rules.specs.Inner.Evaluating.{input_refusal, late_refusal, late_by, suits_by, Prepared, early_refusal, Attempted, early_checks, Evaluated}
 use Rattle.rules.specs.Refusals.{workspace_need, early, first_of, unless, within, number, short_room, lengths_fit, boundary_within, written, values_within, values_below, refusal_of, bad_lengths, boundary_below, bad_value, bad_boundary}
 use Rattle.rules.specs.Analysis.{marks, layers, orders}
 use Rattle.rules.proofs.Facts.Tests.{∈-all, not_both, first-none, all-∈, unless-none, both}
@@ -25,13 +22,18 @@ use Rattle.rules.specs.Evaluation.{suits_at, unplaced_op, wrong_operation, evalu
 use Rattle.rules.proofs.Facts.Member.{∈-range, range-∈}
 use Rattle.rules.proofs.Facts.Running.{sources_long, targets_long, runs_kept, back_front}
 use Rattle.rules.specs.Calls.{eval_refusal}
-use Rattle.rules.specs.Inner.Words.{filled, back}
+use Rattle.rules.specs.Inner.Words.{back}
 use Rattle.rules.specs.Promises.{Eval}
 use Rattle.rules.specs.Inner.Running.{memory_at, Ran, memory_of}
 use Rattle.rules.proofs.Facts.Refusing.{refused_keeps, Early, number-some, first_behind, early-first, first-append, early-unless, early-left}
 use Rattle.rules.proofs.Facts.Accepts.{tests_accept, tests_bound}
 use Rattle.rules.specs.Inner.Checks.{boundary_lists_refusal}
 use Rattle.rules.proofs.Facts.Evaluating.{store_length}
+use Rattle.std.specs.Prelude.{Result, Ok, Err, ltb, ◌||◌}
+use Rattle.rules.specs.declared.Refusal.TheVariants.{ShortRoom}
+use Rattle.rules.proofs.Facts.Rooms.{Rooms, one_room, more_rooms}
+use borrow.Author.Tests.{leb-true}
+use Rattle.rules.specs.Drawing.{most_items}
 
 -- a test of every number below m
 pub all-range : (p : ℕ → Bool) (m : ℕ) → ((k : ℕ) → k < m → p k ≡ true) → all p (range m) ≡ true
@@ -146,13 +148,14 @@ module _ (d : Drawing) (ws : List ℕ) (a : Accepted d) (long : length ws ≡ wo
   pub prepared_at : (k₁ a₂ k₂ a₃ k₃ : ℕ) (y₁ y₂ y₃ : List ℕ) → k₁ ≡ op_count d → a₂ ≡ 5 * op_count d + 1 → k₂ ≡ op_count d → a₃ ≡ 6 * op_count d + 1 → k₃ ≡ node_count d
       → length y₁ ≡ length (seg (4 * op_count d + 1) k₁ ws) → length y₂ ≡ length (seg a₂ k₂ (back (4 * op_count d + 1) k₁ y₁ ws))
       → ((e : ℕ) → e < length d.source_lengths → get_or y₁ e 0 ≡ sum (take e d.source_lengths)) → ((e : ℕ) → e < length d.target_lengths → get_or y₂ e 0 ≡ sum (take e d.target_lengths))
-      → y₃ ≡ filled (node_count d) 0 (seg a₃ k₃ (back a₂ k₂ y₂ (back (4 * op_count d + 1) k₁ y₁ ws)))
+      → y₃ ≡ replicate (length (seg a₃ k₃ (back a₂ k₂ y₂ (back (4 * op_count d + 1) k₁ y₁ ws)))) 0
       → Prepared d (replicate (node_count d) 0) ws (back a₃ k₃ y₃ (back a₂ k₂ y₂ (back (4 * op_count d + 1) k₁ y₁ ws)))
   prepared_at k₁ a₂ k₂ a₃ k₃ y₁ y₂ y₃ p₁ q₂ p₂ q₃ p₃ l₁ l₂ s t z =
       let l₁' : length y₁ ≡ op_count d = l₁ ∙ seg-length (4 * op_count d + 1) k₁ ws (omega arith) ∙ p₁ in
       let g₁ : length (back (4 * op_count d + 1) k₁ y₁ ws) ≡ length ws = back-length (4 * op_count d + 1) k₁ y₁ ws (omega arith) (omega arith) in
       let l₂' : length y₂ ≡ op_count d = l₂ ∙ seg-length a₂ k₂ (back (4 * op_count d + 1) k₁ y₁ ws) (omega arith) ∙ p₂ in
-      let zeros : y₃ ≡ replicate (node_count d) 0 = z ∙ rw (drop_of_length-le (seg a₃ k₃ (back a₂ k₂ y₂ (back (4 * op_count d + 1) k₁ y₁ ws))) {i = node_count d} (simp length-take (omega arith))) (append-nil (replicate (node_count d) 0)) in
+      let g₂ : length (back a₂ k₂ y₂ (back (4 * op_count d + 1) k₁ y₁ ws)) ≡ length ws = back-length a₂ k₂ y₂ (back (4 * op_count d + 1) k₁ y₁ ws) (omega arith) (omega arith) ∙ g₁ in
+      let zeros : y₃ ≡ replicate (node_count d) 0 = z ∙ ap (λ n. replicate n 0) (seg-length a₃ k₃ (back a₂ k₂ y₂ (back (4 * op_count d + 1) k₁ y₁ ws)) (omega arith) ∙ p₃) in
       rw (p₁, q₂, p₂, q₃, p₃, zeros)
       (prepared y₁ y₂ (replicate (node_count d) 0) l₁' l₂' (length-replicate (node_count d) 0) (λ e h. s e (omega (arith, a.sources.count))) (λ e h. t e (omega (arith, a.targets.count))))
 
@@ -198,10 +201,10 @@ module _ (d : Drawing) (b : Boundary) (values out ws ws₁ : List ℕ) (a : Acce
   pub late_here : (k n : ℕ) → k ≡ op_count d → n ≡ late_by (seg (op_count d) k ws₁) d.ops d.source_lengths d.target_lengths → n ≡ late_refusal d
   late_here k n e q = q ∙ late_same d a (seg (op_count d) k ws₁) (marks_are k e)
 
-  pub attempt_refused : (why : Refusal) → number why ≡ late_refusal d → Attempted d b values out out ws ws₁ (Faulty why)
+  pub attempt_refused : (why : Refusal) → number why ≡ late_refusal d → Attempted d b values out out ws ws₁ (Err why)
   attempt_refused why e = record { refusal = e; output = refused_keeps (number why) (evaluated d b values) out (number-some why); long = l.long }
 
-  pub attempt_run : (out' ws' : List ℕ) → late_refusal d ≡ 0 → length out ≡ length b.outputs → length ws' ≡ length ws₁ → out' ≡ evaluated d b values → Attempted d b values out out' ws ws' Fine
+  pub attempt_run : (out' ws' : List ℕ) → late_refusal d ≡ 0 → length out ≡ length b.outputs → length ws' ≡ length ws₁ → out' ≡ evaluated d b values → Attempted d b values out out' ws ws' (Ok tt)
   attempt_run out' ws' e n k q =
       record {
         refusal = sym e;
@@ -210,47 +213,59 @@ module _ (d : Drawing) (b : Boundary) (values out ws ws₁ : List ℕ) (a : Acce
       }
 
 -- and cleared
-pub evaluated-clear : (d : Drawing) (b : Boundary) (values out out' ws ws₁ ws' : List ℕ) (r : Done) → length ws ≡ workspace_need d → Attempted d b values out out' ws ws₁ r → ws' ≡ filled (length ws₁) 0 ws₁
+pub evaluated-clear : (d : Drawing) (b : Boundary) (values out out' ws ws₁ ws' : List ℕ) (r : Result Unit Refusal) → length ws ≡ workspace_need d → Attempted d b values out out' ws ws₁ r → ws' ≡ replicate (length ws₁) 0
     → Evaluated d b values out out' ws' r
 evaluated-clear d b values out out' ws ws₁ ws' r long t e =
     record {
       refusal = t.refusal;
       output = t.output;
-      clear = e ∙ rw (drop_of_length-le ws₁ {i = length ws₁} (omega arith), t.long, long) (append-nil (replicate (workspace_need d) 0));
+      clear = e ∙ rw (t.long, long);
     }
+
+-- the checks of what is lent
+module _ (d : Drawing) (b : Boundary) (values : List ℕ) where
+  abbrev pub limits : Bool
+  limits = within d && boundary_within b && values_within values
+
+  -- what has passed 1, 2, 3 and 12 is a valid drawing with a valid boundary
+  module _ (e : limits ≡ true) (q : boundary_lists_refusal d b ≡ 0) where
+    limits_hold : (within d ≡ true) × (boundary_within b ≡ true)
+    limits_hold = both (within d) (boundary_within b) (both (within d && boundary_within b) (values_within values) e).0
+
+    tests_hold : (lengths_fit d ≡ true) × (values_below d ≡ true) × (boundary_below (node_count d) b ≡ true)
+    unfolding boundary_lists_refusal
+    tests_hold =
+        let p₁ = first-none (bad_lengths d) (bad_value d ∷ bad_boundary d b ∷ []) q in
+        let p₂ = first-none (bad_value d) (bad_boundary d b ∷ []) p₁.1 in
+        let p₃ = first-none (bad_boundary d b) [] p₂.1 in
+        (unless-none (lengths_fit d) 2 (omega arith) p₁.0, unless-none (values_below d) 3 (omega arith) p₂.0, unless-none (boundary_below (node_count d) b) 12 (omega arith) p₃.0)
+
+    pub checked_drawing : Accepted d
+    checked_drawing = tests_accept d limits_hold.0 tests_hold.0 tests_hold.1
+
+    pub checked_boundary : AcceptedBoundary (node_count d) b
+    checked_boundary = tests_bound (node_count d) b limits_hold.1 tests_hold.2
 
 -- the checks before
 module _ (d : Drawing) (b : Boundary) (values : List ℕ) (lent words : ℕ) where
-  abbrev rooms : List ℕ
-  rooms = short_room (length b.outputs) lent ∷ short_room (workspace_need d) words ∷ []
+  abbrev rooms_asked : List ℕ
+  rooms_asked = short_room (length b.outputs) lent ∷ short_room (workspace_need d) words ∷ []
 
-  abbrev limits : Bool
-  limits = within d && boundary_within b && values_within values
-
-  -- the test of the limits, as the code joins it
-  pub check_limits : (r t v : Bool) → r ≡ within d → t ≡ boundary_within b → r && t && leb (length values) most_items ≡ v → limits ≡ v
+  -- the test of the limits d b values, as the code joins it
+  pub check_limits : (r t v : Bool) → r ≡ within d → t ≡ boundary_within b → r && t && leb (length values) most_items ≡ v → limits d b values ≡ v
   check_limits r t v p q e = rw (← p, ← q) e
 
-  -- what has passed 1, 2, 3 and 12 is a valid drawing
-  pub checked_drawing : limits ≡ true → boundary_lists_refusal d b ≡ 0 → Accepted d
-  unfolding boundary_lists_refusal
-  checked_drawing e q =
-      let w = (both (within d) (boundary_within b) (both (within d && boundary_within b) (values_within values) e).0).0 in
-      let p₁ = first-none (bad_lengths d) (bad_value d ∷ bad_boundary d b ∷ []) q in
-      let p₂ = first-none (bad_value d) (bad_boundary d b ∷ []) p₁.1 in
-      tests_accept d w (unless-none (lengths_fit d) 2 (omega arith) p₁.0) (unless-none (values_below d) 3 (omega arith) p₂.0)
-
-  pub check_over : limits ≡ false → 1 ≡ early_refusal d b values lent words
+  pub check_over : limits d b values ≡ false → 1 ≡ early_refusal d b values lent words
   unfolding early_refusal
   check_over e = rw e
 
-  pub check_faulty : (why : Refusal) → limits ≡ true → number why ≡ boundary_lists_refusal d b → number why ≡ early_refusal d b values lent words
+  pub check_faulty : (why : Refusal) → limits d b values ≡ true → number why ≡ boundary_lists_refusal d b → number why ≡ early_refusal d b values lent words
   unfolding early_refusal boundary_lists_refusal
-  check_faulty why e q = rw e (sym (first-append (bad_lengths d ∷ bad_value d ∷ bad_boundary d b ∷ []) rooms (number why) q (number-some why)))
+  check_faulty why e q = rw e (sym (first-append (bad_lengths d ∷ bad_value d ∷ bad_boundary d b ∷ []) rooms_asked (number why) q (number-some why)))
 
-  pub check_rooms : (t : Bool) (need : ℕ) → need ≡ workspace_need d → limits ≡ true → boundary_lists_refusal d b ≡ 0 → t ≡ leb (length b.outputs) lent && leb need words → unless t 11 ≡ early_refusal d b values lent words
+  pub check_rooms : (t : Bool) (need : ℕ) → need ≡ workspace_need d → limits d b values ≡ true → boundary_lists_refusal d b ≡ 0 → t ≡ leb (length b.outputs) lent && leb need words → unless t 11 ≡ early_refusal d b values lent words
   unfolding early_refusal boundary_lists_refusal
-  check_rooms t need n e q h = let s = rw n at h in rw e (sym (first_behind (bad_lengths d ∷ bad_value d ∷ bad_boundary d b ∷ []) rooms q ∙ rw s (both_rooms (leb (length b.outputs) lent) (leb (workspace_need d) words))))
+  check_rooms t need n e q h = let s = rw n at h in rw e (sym (first_behind (bad_lengths d ∷ bad_value d ∷ bad_boundary d b ∷ []) rooms_asked q ∙ rw s (both_rooms (leb (length b.outputs) lent) (leb (workspace_need d) words))))
     where
       both_rooms : (p q : Bool) → first_of (unless p 11 ∷ unless q 11 ∷ []) ≡ unless (p && q) 11
       both_rooms true true = refl
@@ -259,16 +274,16 @@ module _ (d : Drawing) (b : Boundary) (values : List ℕ) (lent words : ℕ) whe
 
   -- what passes them is valid, and the rooms are enough
   module _ (none : early_refusal d b values lent words ≡ 0) where
-    all_none : (limits ≡ true) × (lengths_fit d ≡ true) × (values_below d ≡ true) × (boundary_below (node_count d) b ≡ true) × (length b.outputs ≤ lent) × (workspace_need d ≤ words)
+    all_none : (limits d b values ≡ true) × (lengths_fit d ≡ true) × (values_below d ≡ true) × (boundary_below (node_count d) b ≡ true) × (length b.outputs ≤ lent) × (workspace_need d ≤ words)
     unfolding early_refusal
     all_none =
-        let p₁ = first-none (unless limits 1) (bad_lengths d ∷ bad_value d ∷ bad_boundary d b ∷ rooms) none in
-        let p₂ = first-none (bad_lengths d) (bad_value d ∷ bad_boundary d b ∷ rooms) p₁.1 in
-        let p₃ = first-none (bad_value d) (bad_boundary d b ∷ rooms) p₂.1 in
-        let p₄ = first-none (bad_boundary d b) rooms p₃.1 in
+        let p₁ = first-none (unless (limits d b values) 1) (bad_lengths d ∷ bad_value d ∷ bad_boundary d b ∷ rooms_asked) none in
+        let p₂ = first-none (bad_lengths d) (bad_value d ∷ bad_boundary d b ∷ rooms_asked) p₁.1 in
+        let p₃ = first-none (bad_value d) (bad_boundary d b ∷ rooms_asked) p₂.1 in
+        let p₄ = first-none (bad_boundary d b) rooms_asked p₃.1 in
         let p₅ = first-none (short_room (length b.outputs) lent) (short_room (workspace_need d) words ∷ []) p₄.1 in
         let p₆ = first-none (short_room (workspace_need d) words) [] p₅.1 in (
-          unless-none limits 1 (omega arith) p₁.0,
+          unless-none (limits d b values) 1 (omega arith) p₁.0,
           unless-none (lengths_fit d) 2 (omega arith) p₂.0,
           unless-none (values_below d) 3 (omega arith) p₃.0,
           unless-none (boundary_below (node_count d) b) 12 (omega arith) p₄.0,
@@ -276,14 +291,14 @@ module _ (d : Drawing) (b : Boundary) (values : List ℕ) (lent words : ℕ) whe
           leb-true (workspace_need d) words (unless-none (leb (workspace_need d) words) 11 (omega arith) p₆.0),
         )
 
-    limits_hold : (within d ≡ true) × (boundary_within b ≡ true)
-    limits_hold = both (within d) (boundary_within b) (both (within d && boundary_within b) (values_within values) all_none.0).0
+    limits_held : (within d ≡ true) × (boundary_within b ≡ true)
+    limits_held = both (within d) (boundary_within b) (both (within d && boundary_within b) (values_within values) all_none.0).0
 
     pub passed_drawing : Accepted d
-    passed_drawing = tests_accept d limits_hold.0 all_none.1 all_none.2
+    passed_drawing = tests_accept d limits_held.0 all_none.1 all_none.2
 
     pub passed_boundary : AcceptedBoundary (node_count d) b
-    passed_boundary = tests_bound (node_count d) b limits_hold.1 all_none.3
+    passed_boundary = tests_bound (node_count d) b limits_held.1 all_none.3
 
     pub passed_output : length b.outputs ≤ lent
     passed_output = all_none.4
@@ -291,7 +306,7 @@ module _ (d : Drawing) (b : Boundary) (values : List ℕ) (lent words : ℕ) whe
     pub passed_words : workspace_need d ≤ words
     passed_words = all_none.5
 
--- the promise, at the call's two returns
+-- the promise, at the call's returns
 module _ (d : Drawing) (b : Boundary) (values out ws : List ℕ) where
   abbrev before : List ℕ
   before = early_checks d b values (length out) (length ws)
@@ -309,7 +324,7 @@ module _ (d : Drawing) (b : Boundary) (values out ws : List ℕ) where
       (early-first (short_room (length b.outputs) (length out)) (short_room (workspace_need d) (length ws) ∷ []) (early-unless (leb (length b.outputs) (length out)) 11 refl)
       (early-first (short_room (workspace_need d) (length ws)) [] (early-unless (leb (workspace_need d) (length ws)) 11 refl) (inl refl))))))
 
-  pub eval_refused : (why : Refusal) → number why ≡ early_refusal d b values (length out) (length ws) → Eval d b values out out ws ws (Faulty why)
+  pub eval_refused : (why : Refusal) → number why ≡ early_refusal d b values (length out) (length ws) → Eval d b values out out ws ws (Err why)
   unfolding eval_refusal early_refusal
   eval_refused why e =
       record {
@@ -318,7 +333,28 @@ module _ (d : Drawing) (b : Boundary) (values out ws : List ℕ) where
         workspace = early-left (number why) (workspace_need d) ws (rw e early-early) (number-some why);
       }
 
-  pub eval_done : (out₁ ws₁ : List ℕ) (r : Done) (words : ℕ) → words ≡ workspace_need d → early_refusal d b values (length out) (length ws) ≡ 0
+  abbrev inputs : List ℕ
+  inputs = unless (limits d b values) 1 ∷ bad_lengths d ∷ bad_value d ∷ bad_boundary d b ∷ []
+
+  -- what is lent is refused
+  pub eval_faulty : (why : Refusal) → number why ≡ input_refusal d b values → Eval d b values out out ws ws (Err why)
+  unfolding input_refusal early_refusal
+  eval_faulty why e = eval_refused why (sym (first-append inputs lent_rooms (number why) e (number-some why)))
+
+  -- the two rooms are looked at
+  rooms : Rooms lent_rooms (ltb (length out) (length b.outputs) || ltb (length ws) (workspace_need d))
+  rooms = more_rooms (workspace_need d) (length ws) (one_room (length b.outputs) (length out))
+
+  module _ (fine : input_refusal d b values ≡ 0) where
+    pub eval_short : ltb (length out) (length b.outputs) || ltb (length ws) (workspace_need d) ≡ true → Eval d b values out out ws ws (Err ShortRoom)
+    unfolding input_refusal early_refusal
+    eval_short h = eval_refused ShortRoom (sym (first_behind inputs lent_rooms fine ∙ rooms.yes h))
+
+    pub early_none : ltb (length out) (length b.outputs) || ltb (length ws) (workspace_need d) ≡ false → early_refusal d b values (length out) (length ws) ≡ 0
+    unfolding input_refusal early_refusal
+    early_none h = first_behind inputs lent_rooms fine ∙ rooms.no h
+
+  pub eval_done : (out₁ ws₁ : List ℕ) (r : Result Unit Refusal) (words : ℕ) → words ≡ workspace_need d → early_refusal d b values (length out) (length ws) ≡ 0
       → Evaluated d b values (take (length b.outputs) out) out₁ ws₁ r
       → Eval d b values out (out₁ ++ drop (length b.outputs) out) ws (ws₁ ++ drop words ws) r
   unfolding eval_refusal early_refusal late_refusal

@@ -1,13 +1,19 @@
 -- Offsets that are tested, and the part that is handed back of a layer.
-use Rattle.std.specs.Prelude.{ℕ, zero, suc, ◌+◌, ◌-◌, ◌≤◌, ◌<◌, Bool, true, false, ◌&&◌, List, [], ◌∷◌, ◌≡◌, refl, length, get_or, drop, eqb, leb, ltb}
-use Rattle.std.proofs.Common.{ap, ◌∙◌, arith, length-drop}
-use borrow.Author.Tests.{eqb-true, ne_eqb, eq-eqb, le-leb, lt-leb, leb-true}
+use Rattle.std.specs.Prelude.{ℕ, zero, suc, ◌+◌, ◌-◌, ◌≤◌, ◌<◌, Bool, true, false, ◌&&◌, List, [], ◌∷◌, ◌≡◌, refl, length, get_or, eqb, leb, ltb}
+use Rattle.std.proofs.Common.{sym, ◌∙◌, arith}
+use Rattle.std.specs.Bool.{MatchBool}
+use Rattle.std.specs.List.Sorted.{IsNonDecreasing}
+use borrow.Author.Tests.{eqb-true, ne_eqb, eq-eqb, le-leb, leb-true}
 use Rattle.rules.specs.Analysis.{sound, layer_part, rising, orders}
-use Rattle.rules.proofs.Facts.Counts.{drop_more}
 use Rattle.rules.specs.Promises.{LayerAt, OffsetsSound}
 use Rattle.rules.proofs.Facts.Tests.{both}
 use Rattle.rules.specs.Lists.{seg}
 use Rattle.rules.proofs.Facts.Layers.{layer_found, orders_in}
+use Rattle.rules.proofs.Facts.Counts.{drop_more}
+use borrow.Author.Tests.{lt-leb}
+use Rattle.std.proofs.Common.{length-drop}
+use Rattle.std.specs.Prelude.{drop}
+use Rattle.std.proofs.Common.{ap}
 
 -- a test of a list that never falls, one number more each time
 module _ (l : List ℕ) (i : ℕ) (h : i + 1 < length l) where
@@ -42,6 +48,22 @@ rising-at (a ∷ c ∷ l) zero zero r h b = omega arith
 rising-at (a ∷ c ∷ l) (suc i) zero r h b = absurd (omega arith)
 rising-at (a ∷ c ∷ l) zero (suc j) r h b = let p = both (leb a c) (rising (c ∷ l)) r in omega (arith, leb-true a c p.0, rising-at (c ∷ l) 0 j p.1 (omega arith) (omega arith))
 rising-at (a ∷ c ∷ l) (suc i) (suc j) r h b = let p = both (leb a c) (rising (c ∷ l)) r in rising-at (c ∷ l) i j p.1 (omega arith) (omega arith)
+
+-- and a list is if each number is at most the next
+rising_all : (l : List ℕ) → IsNonDecreasing l → rising l ≡ true
+unfolding rising
+rising_all [] h = refl
+rising_all (a ∷ []) h = refl
+rising_all (a ∷ b ∷ l) h = rw (le-leb a b (h 0 1 0 (omega arith) (omega arith))) (rising_all (b ∷ l) (λ i j d p q. h (suc i) (suc j) d (omega arith) (omega arith)))
+
+-- what the library's test of a sorted list tells
+pub rising_sorted : (l : List ℕ) (r : Bool) → MatchBool r (IsNonDecreasing l) ((k : ℕ) × (k + 1 < length l) × ((d : ℕ) → get_or l (k + 1) d < get_or l k d)) → r ≡ rising l
+rising_sorted l true h = sym (rising_all l h)
+rising_sorted l false h = go (rising l) refl
+  where
+    go : (b : Bool) → rising l ≡ b → false ≡ b
+    go false e = refl
+    go true e = absurd (omega (arith, rising-at l h.0 (h.0 + 1) e (omega arith) h.1, h.2 0))
 
 -- sound offsets give a part of the operations
 pub record Sound (ops offsets : List ℕ) : Type 0 where

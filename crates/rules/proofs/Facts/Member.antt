@@ -8,7 +8,7 @@ use Rattle.std.proofs.Math.ListN.{get_or-eq_default, get_or-append}
 use Rattle.std.proofs.lemmas.List.{get_or_at}
 use Rattle.std.proofs.Math.Dec.{eqb_refl}
 use Rattle.rules.specs.Drawing.{part}
-use Rattle.rules.specs.Lists.{◌∈◌, has, any, range, concat, at, sum}
+use Rattle.rules.specs.Lists.{◌∈◌, has, any, range, concat, sum}
 use Rattle.rules.proofs.Facts.Bools.{is_true, is_false, or_cases, or_l, or_r}
 
 -- membership is decided

@@ -1,11 +1,10 @@
 -- A number that is written is read again: what ties the two halves of the text together.
-use Rattle.std.specs.Prelude.{ℕ, zero, suc, ◌+◌, ◌-◌, ◌*◌, ◌/◌, ◌%◌, ◌^◌, ◌<◌, Bool, true, false, cond, List, [], ◌∷◌, ◌++◌, ◌≡◌, refl, length, ltb}
-use Rattle.std.proofs.Common.{sym, ap, ◌∙◌, mod-lt, div-add-mod', arith, length-append, lit<, ne_eqb, le-leb, lt-ltb, ltb-true}
+use Rattle.std.specs.Prelude.{ℕ, zero, suc, ◌+◌, ◌-◌, ◌*◌, ◌/◌, ◌%◌, ◌^◌, ◌<◌, Bool, true, false, cond, List, [], ◌∷◌, ◌++◌, ◌≡◌, refl, Ok, Some, length, ltb}
+use Rattle.std.proofs.Common.{ap, ◌∙◌, mod-lt, div-add-mod', arith, length-append, lit<, ne_eqb, le-leb, lt-ltb, ltb-true}
 use Rattle.rules.specs.Text.{separator, digit, blanks, word, all_digits, worth, number_at}
 use Rattle.rules.specs.Program.{spelled, decimal}
-use Rattle.rules.specs.declared.Number.TheVariants.{Value}
 use Rattle.rules.proofs.Facts.Tests.{both}
-use Rattle.rules.proofs.Facts.TextWords.{digit_fits, fine_word}
+use Rattle.rules.proofs.Facts.TextWords.{digit_fits, within_word}
 use Rattle.rules.proofs.Facts.Writing.{tenth, decimal-length}
 
 no_separator : (b : ℕ) → digit b ≡ true → separator b ≡ false
@@ -74,10 +73,9 @@ unfolding decimal
 decimal_spelt n h = spelt 9 n (omega arith)
 
 -- A NUMBER THAT IS WRITTEN, WITH A SEPARATOR BEHIND IT, IS READ AS THAT NUMBER
-pub number_again : (n b : ℕ) (rest : List ℕ) → n < 2 ^ 32 → separator b ≡ true → number_at (decimal n ++ b ∷ rest) 0 ≡ Value n (length (decimal n))
+pub number_again : (n b : ℕ) (rest : List ℕ) → n < 2 ^ 32 → separator b ≡ true → number_at (decimal n ++ b ∷ rest) 0 ≡ Ok (Some (n, length (decimal n)))
 unfolding number_at
 number_again n b rest h s =
     let d = decimal_spelt n h in
     let z : 0 + length (decimal n) ≡ length (decimal n) = omega arith in
-    rw (no_blanks (decimal n) (b ∷ rest) d.some d.digits, word_digits (decimal n) b rest d.digits s, ne_eqb (length (decimal n)) 0 (λ e. omega (arith, d.some)), z)
-    (sym (fine_word (decimal n) (length (decimal n)) (decimal-length n) d.digits n d.is (omega arith)))
+    rw (no_blanks (decimal n) (b ∷ rest) d.some d.digits, word_digits (decimal n) b rest d.digits s, ne_eqb (length (decimal n)) 0 (λ e. omega (arith, d.some)), z, within_word (decimal n) (decimal-length n) d.digits (omega (arith, d.is)), d.is)

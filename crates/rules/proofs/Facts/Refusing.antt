@@ -6,13 +6,14 @@ use Rattle.std.proofs.Math.Path.{refl, sym}
 use Rattle.std.proofs.lemmas.Bool.{lt-leb}
 use Rattle.rules.specs.Lists.{has}
 use Rattle.rules.specs.Drawing.{Drawing, Boundary, node_count}
-use Rattle.rules.specs.declared.Done.{Done}
-use Rattle.rules.specs.declared.Done.TheVariants.{Fine, Faulty}
 use Rattle.rules.specs.Refusals.{number, refusal_of, first_of, unless, short_room, within, lengths_fit, values_below, bad_lengths, bad_value, early, left_over, written, bad_boundary, boundary_below}
 use Rattle.rules.specs.Calls.{drawing_refusal}
 use Rattle.rules.specs.Inner.Checks.{lists_refusal, boundary_lists_refusal}
 use Rattle.rules.specs.declared.Refusal.{Refusal}
 use Rattle.rules.specs.declared.Refusal.TheVariants.{OverLimit, BadLengths, BadValue, BadEntry, TypeMismatchW, TypeMismatchX, NotNaturalW, NotNaturalX, NotNaturalS, NotNaturalT, ShortRoom, BadBoundary, Unplaced, WrongOperation, BadText}
+use Rattle.std.specs.Prelude.{Result, Ok, Err}
+use Rattle.std.specs.Result.{IsErrAnd}
+use Rattle.std.proofs.lemmas.Result.{err_from_is_err_and}
 
 -- a refusal has a number
 pub number-some : (why : Refusal) → ¬ (number why ≡ 0)
@@ -33,10 +34,14 @@ number-some WrongOperation e = omega arith
 number-some BadText e = omega arith
 
 -- what a callee's answer tells, at each arm
-pub faulty_number : {k : ℕ} (r : Done) (why : Refusal) → refusal_of r ≡ k → r ≡ Faulty why → number why ≡ k
+pub faulty_number : {A : Type 0} {k : ℕ} (r : Result A Refusal) (why : Refusal) → refusal_of r ≡ k → r ≡ Err why → number why ≡ k
 faulty_number r why e q = sym (ap refusal_of q) ∙ e
 
-pub fine_none : {k : ℕ} (r : Done) → refusal_of r ≡ k → r ≡ Fine → k ≡ 0
+-- what `?` hands on
+pub handed : {A : Type 0} {r : Result A Refusal} {why : Refusal} → IsErrAnd r (λ y. y ≡ why) → r ≡ Err why
+handed {r = r} {why} h = let p = err_from_is_err_and r h in p.1 ∙ ap Err p.2
+
+pub fine_none : {A : Type 0} {k : ℕ} {x : A} (r : Result A Refusal) → refusal_of r ≡ k → r ≡ Ok x → k ≡ 0
 fine_none r e q = sym e ∙ ap refusal_of q
 
 -- the first of two lists, one behind the other

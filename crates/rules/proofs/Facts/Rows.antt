@@ -1,20 +1,22 @@
 -- Laws of rows one behind the other, of their tables, and of what is put into a list.
-use Rattle.std.specs.Prelude.{ℕ, zero, suc, ◌+◌, ◌-◌, ◌≤◌, ◌<◌, List, [], ◌∷◌, ◌++◌, map, ◌≡◌, refl, take, drop}
+use Rattle.std.specs.Prelude.{ℕ, zero, suc, ◌+◌, ◌-◌, ◌≤◌, ◌<◌, List, [], ◌∷◌, ◌++◌, map, ◌≡◌, refl, take, drop, replicate}
 use Rattle.std.proofs.Common.{append-nil, append_assoc, sym, ap, ◌∙◌, add-one, arith, length-append, length-drop, take-append-drop, get_or-append-add, get_or-drop, take_at, drop-drop, take-add, length-take-le, ext_get_or}
 use Rattle.std.proofs.Math.Decide.{dec_lt}
 use Rattle.std.proofs.Math.ListN.{length, get_or, get_or-append}
-use Rattle.std.proofs.lemmas.List.{length-map}
+use Rattle.std.proofs.lemmas.List.{length-map, length-replicate, get_or-replicate}
 use Rattle.std.proofs.Math.Seq.{take-length, take-append_seam, drop-append_seam, drop-append-add}
 use Rattle.rules.specs.Lists.{◌∈◌, sum, seg, concat, range, row_lengths, row_entries}
 use Rattle.rules.specs.Drawing.{part}
-use Rattle.rules.proofs.Facts.Segments.{filled_long, filled_front, filled_rest}
 use Rattle.rules.specs.Inner.Rows.{row_of, Sections, Tabled, Starts, put_at}
 use Rattle.rules.proofs.Facts.Converse.{map-append}
 use Rattle.rules.proofs.Facts.Placing.{sum-take_le, sum-all, sum-take}
 use Rattle.rules.proofs.Facts.Member.{range_length, map_range}
-use Rattle.rules.specs.Inner.Words.{filled, counts, count, back}
+use Rattle.rules.specs.Inner.Words.{counts, count, back}
 use Rattle.rules.specs.Inner.Loops.{Counted}
+use Rattle.rules.specs.Inner.Words.{filled}
+use Rattle.rules.proofs.Facts.Segments.{filled_long, filled_front, filled_rest}
 use Rattle.rules.proofs.Facts.Counts.{count_above}
+use Rattle.std.proofs.Common.{take_at}
 
 pub concat-append : (g : ℕ → List ℕ) (l r : List ℕ) → concat (map g (l ++ r)) ≡ concat (map g l) ++ concat (map g r)
 concat-append g [] r = refl
@@ -130,6 +132,10 @@ module _ (from : ℕ) (a l : List ℕ) (fits : from + length a ≤ length l) whe
           ap (λ (k : ℕ). drop (k + length b) ((take from l ++ a) ++ drop (from + length a) l)) (sym before)
           ∙ drop-append-add (take from l ++ a) (drop (from + length a) l) (length b) ∙ drop-drop (length b) (from + length a) l
 
+-- as many counts as numbers are counted
+pub counts-long : (n : ℕ) (l : List ℕ) → length (counts n l) ≡ n
+counts-long n l = length-map (range n) (λ v. count v l) ∙ range_length n
+
 -- a part that was lent
 pub back_put : (a k : ℕ) (ys ws : List ℕ) → length ys ≡ k → back a k ys ws ≡ put_at a ys ws
 back_put a k ys ws h = rw (drop-drop k a ws, h)
@@ -152,7 +158,16 @@ put_each f k out out' h long front rest =
         rest i (omega arith)
         ∙ sym (rw (put_front (map f (range k)) out) (ap (λ (j : ℕ). get_or (map f (range k) ++ drop (length (map f (range k))) out) j 0) q ∙ get_or-append-add (map f (range k)) (drop (length (map f (range k))) out) (i - k) 0 ∙ get_or-drop (length (map f (range k))) out (i - k) 0 ∙ rw p))
 
--- the counts of a list, put into an output that was cleared and counted on
+-- the counts of a list, in a list that was cleared and counted on
+pub counts_new : (l t z t' : List ℕ) → ((u : ℕ) → u ∈ l → u < length t) → z ≡ replicate (length t) 0 → Counted l z t' → t' ≡ counts (length t) l
+counts_new l t z t' low clear c =
+    ext_get_or 0 t' (counts (length t) l) (c.long ∙ ap length clear ∙ length-replicate {A = ℕ} (length t) 0 ∙ sym (counts-long (length t) l))
+    (λ v b. omega (arith, c.each v, ap (λ (y : List ℕ). get_or y v 0) clear, get_or-replicate {A = ℕ} (length t) v 0 0 (at v b), map_range (λ u. count u l) (length t) v (at v b)))
+  where
+    at : (v : ℕ) → v < length t' → v < length t
+    at v b = omega (arith, c.long, ap length clear, length-replicate {A = ℕ} (length t) 0)
+
+-- the counts of a list, put into an output that was cleared in front and counted on
 pub counts_put : (n : ℕ) (l t z t' : List ℕ) → n ≤ length t → ((u : ℕ) → u ∈ l → u < n) → z ≡ filled n 0 t → Counted l z t' → t' ≡ put_at 0 (counts n l) t
 counts_put n l t z t' h low clear c =
     put_each (λ v. count v l) n t t' h (c.long ∙ ap length clear ∙ filled_long n 0 t h)

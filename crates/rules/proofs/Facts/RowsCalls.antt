@@ -4,22 +4,22 @@ use Rattle.std.proofs.Common.{arith, append-nil, ap, ◌∙◌, drop_of_length-l
 use Rattle.std.proofs.Math.Path.{refl, sym}
 use Rattle.std.proofs.Math.Seq.{drop-append-add}
 use Rattle.rules.specs.Lists.{sum, row_lengths, row_entries}
-use Rattle.rules.specs.declared.Done.{Done}
-use Rattle.rules.specs.declared.Done.TheVariants.{Fine, Faulty}
 use Rattle.rules.specs.declared.Refusal.{Refusal}
 use Rattle.rules.specs.declared.Refusal.TheVariants.{ShortRoom}
 use Rattle.rules.specs.Inner.Rooms.{rooms_short, rooms_refusal}
 use Rattle.rules.specs.Drawing.{Drawing, Accepted, node_count}
 use Rattle.rules.specs.Inner.Loops.{Listed}
 use Rattle.rules.proofs.Facts.Incident.{sources_listed}
-use Rattle.rules.specs.Refusals.{unless, short_room, workspace_need, within, bad_lengths, number, bad_value}
+use Rattle.rules.specs.Refusals.{refusal_of, unless, short_room, workspace_need, within, bad_lengths, number, bad_value}
 use Rattle.rules.specs.Inner.Words.{filled}
 use Rattle.rules.specs.Promises.{WritesRows}
 use Rattle.rules.specs.Inner.Rows.{PutRows}
 use Rattle.rules.proofs.Facts.Rooms.{three_rooms}
 use Rattle.rules.specs.Calls.{drawing_refusal, two_outputs_refusal}
 use Rattle.rules.proofs.Facts.Rows.{put_front}
-use Rattle.rules.proofs.Facts.Refusing.{first_behind, first-append, number-some, refused_keeps, early-left, drawing-early}
+use Rattle.rules.proofs.Facts.Refusing.{first_behind, first-append, number-some, refused_keeps, early-left, drawing-early, faulty_number, handed}
+use Rattle.std.specs.Prelude.{Result, Ok, Err}
+use Rattle.std.specs.Result.{IsErrAnd}
 
 -- words at the front that were used and are cleared
 pub front_cleared : (k words : ℕ) (t ws : List ℕ) → length t ≡ k → k ≤ words → filled words 0 (t ++ drop k ws) ≡ filled words 0 ws
@@ -42,12 +42,12 @@ tables_need d ws a h = ((sources_listed d 0 a (omega arith), omega (arith, a.tar
 
 -- the rooms are looked at
 module _ (rows : ℕ → List ℕ) (k need₁ room₁ need₂ room₂ words room : ℕ) (lens lens' vals vals' ws ws' : List ℕ) where
-  pub rows_short : rooms_short need₁ room₁ need₂ room₂ words room ≡ true → WritesRows rows k (rooms_refusal need₁ room₁ need₂ room₂ words room) words lens lens vals vals ws ws (Faulty ShortRoom)
+  pub rows_short : rooms_short need₁ room₁ need₂ room₂ words room ≡ true → WritesRows rows k (rooms_refusal need₁ room₁ need₂ room₂ words room) words lens lens vals vals ws ws (Err ShortRoom)
   unfolding rooms_refusal
   rows_short e = record { refusal = sym ((three_rooms need₁ room₁ need₂ room₂ words room).yes e); lengths = refl; values = refl; workspace = refl }
 
   pub rows_done : rooms_short need₁ room₁ need₂ room₂ words room ≡ false → PutRows rows k lens lens' vals vals' → ws' ≡ filled words 0 ws
-      → WritesRows rows k (rooms_refusal need₁ room₁ need₂ room₂ words room) words lens lens' vals vals' ws ws' Fine
+      → WritesRows rows k (rooms_refusal need₁ room₁ need₂ room₂ words room) words lens lens' vals vals' ws ws' (Ok tt)
   unfolding rooms_refusal
   rows_done e p c =
       record {
@@ -65,7 +65,7 @@ module _ (d : Drawing) (rows : ℕ → List ℕ) (k need₁ room₁ need₂ room
   abbrev rooms : List ℕ
   rooms = short_room need₁ room₁ ∷ short_room need₂ room₂ ∷ short_room (workspace_need d) room ∷ []
 
-  pub rows_faulty : (why : Refusal) → number why ≡ drawing_refusal d → WritesRows rows k (two_outputs_refusal d need₁ room₁ need₂ room₂ room) (workspace_need d) lens lens vals vals ws ws (Faulty why)
+  pub rows_faulty : (why : Refusal) → number why ≡ drawing_refusal d → WritesRows rows k (two_outputs_refusal d need₁ room₁ need₂ room₂ room) (workspace_need d) lens lens vals vals ws ws (Err why)
   unfolding drawing_refusal two_outputs_refusal
   rows_faulty why e =
       record {
@@ -75,18 +75,25 @@ module _ (d : Drawing) (rows : ℕ → List ℕ) (k need₁ room₁ need₂ room
         workspace = early-left (number why) (workspace_need d) ws (rw e (drawing-early d)) (number-some why);
       }
 
-  pub rows_fine : {lens' vals' ws' : List ℕ} {r : Done} → drawing_refusal d ≡ 0 → WritesRows rows k (rooms_refusal need₁ room₁ need₂ room₂ (workspace_need d) room) (workspace_need d) lens lens' vals vals' ws ws' r
+  pub rows_fine : {lens' vals' ws' : List ℕ} {r : Result Unit Refusal} → drawing_refusal d ≡ 0 → WritesRows rows k (rooms_refusal need₁ room₁ need₂ room₂ (workspace_need d) room) (workspace_need d) lens lens' vals vals' ws ws' r
       → WritesRows rows k (two_outputs_refusal d need₁ room₁ need₂ room₂ room) (workspace_need d) lens lens' vals vals' ws ws' r
   unfolding drawing_refusal two_outputs_refusal rooms_refusal
   rows_fine e p = record { refusal = p.refusal ∙ sym (first_behind checks rooms e); lengths = p.lengths; values = p.values; workspace = p.workspace }
 
   -- with words and a need that are known to be these
-  pub rows_sized : {lens' vals' ws' : List ℕ} {r : Done} (words need : ℕ) → drawing_refusal d ≡ 0 → words ≡ workspace_need d → need ≡ need₂
+  pub rows_sized : {lens' vals' ws' : List ℕ} {r : Result Unit Refusal} (words need : ℕ) → drawing_refusal d ≡ 0 → words ≡ workspace_need d → need ≡ need₂
       → WritesRows rows k (rooms_refusal need₁ room₁ need room₂ words room) words lens lens' vals vals' ws ws' r
       → WritesRows rows k (two_outputs_refusal d need₁ room₁ need₂ room₂ room) (workspace_need d) lens lens' vals vals' ws ws' r
   rows_sized words need e p q h = rows_fine e (rw (p, q) at h)
 
   -- a room is too short
   pub rows_refused : (words need : ℕ) → drawing_refusal d ≡ 0 → words ≡ workspace_need d → need ≡ need₂ → rooms_short need₁ room₁ need room₂ words room ≡ true
-      → WritesRows rows k (two_outputs_refusal d need₁ room₁ need₂ room₂ room) (workspace_need d) lens lens vals vals ws ws (Faulty ShortRoom)
+      → WritesRows rows k (two_outputs_refusal d need₁ room₁ need₂ room₂ room) (workspace_need d) lens lens vals vals ws ws (Err ShortRoom)
   rows_refused words need e p q f = rows_sized words need e p q (rows_short rows k need₁ room₁ need room₂ words room lens lens vals vals ws ws f)
+
+-- a refusal of the drawing that is handed on
+pub rows_handed : (d : Drawing) (need₁ room₁ need₂ room₂ room : ℕ) {A : Type 0} {rows : ℕ → List ℕ} {k : ℕ} {lens vals ws : List ℕ} {a : Result A Refusal} {why : Refusal} {r : Result Unit Refusal}
+    → refusal_of a ≡ drawing_refusal d → a ≡ Err why → IsErrAnd r (λ y. y ≡ why)
+    → WritesRows rows k (two_outputs_refusal d need₁ room₁ need₂ room₂ room) (workspace_need d) lens lens vals vals ws ws r
+rows_handed d n₁ r₁ n₂ r₂ room {rows = rows} {k} {lens} {vals} {ws} {a} {why} {r} e q h =
+    rw (handed h) (rows_faulty d rows k n₁ r₁ n₂ r₂ room lens vals ws why (faulty_number a why e q))

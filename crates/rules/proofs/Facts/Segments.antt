@@ -2,7 +2,7 @@
 use Rattle.std.specs.Prelude.{ℕ, zero, suc, ◌+◌, ◌-◌, ◌≤◌, ◌<◌, List, [], ◌∷◌, ◌++◌, ◌≡◌, refl, length, get_or, take, drop, set, replicate}
 use Rattle.std.proofs.Common.{sym, ap, ◌∙◌, arith, length-take, length-drop, length-append, length-take-le, get_or-append-add, get_or-take, get_or-drop, ext_get_or, drop-set-lt, take-take}
 use Rattle.std.proofs.Math.ListN.{get_or-append}
-use Rattle.std.proofs.lemmas.List.{length-replicate, get_or-replicate, take-set-le, drop-set-add}
+use Rattle.std.proofs.lemmas.List.{length-replicate, get_or-replicate, take-set-le, drop-set-add, drop-append-le, take-append-le}
 use Rattle.std.proofs.Math.Seq.{take-set-lt}
 use Rattle.rules.specs.Lists.{seg}
 use Rattle.rules.specs.Inner.Words.{filled, back}
@@ -38,6 +38,10 @@ seg_in_take (suc base) zero b ws h = refl
 seg_in_take (suc base) (suc len) zero ws h = absurd (omega arith)
 seg_in_take (suc base) (suc len) (suc b) [] h = refl
 seg_in_take (suc base) (suc len) (suc b) (a ∷ ws) h = seg_in_take base (suc len) b ws (omega arith)
+
+-- a segment of the front list is that of both
+pub seg_left : (base len : ℕ) (r l : List ℕ) → base + len ≤ length r → seg base len (r ++ l) ≡ seg base len r
+seg_left base len r l h = rw (drop-append-le base r l (omega arith)) (take-append-le len (drop base r) l (simp length-drop (omega arith)))
 
 module _ (a k : ℕ) (ys ws : List ℕ) (fits : a + k ≤ length ws) (long : length ys ≡ k) where
   head_long : length (take a ws) ≡ a
@@ -80,6 +84,10 @@ module _ (a k : ℕ) (ys ws : List ℕ) (fits : a + k ≤ length ws) (long : len
 module _ (n a : ℕ) (l : List ℕ) where
   pub filled_front : (i : ℕ) → i < n → get_or (filled n a l) i 0 ≡ a
   filled_front i h = get_or-append (replicate n a) (drop n l) 0 i (simp length-replicate h) ∙ get_or-replicate n i a 0 h
+
+  -- the front was lent and filled whole
+  pub filled_lent : (y : List ℕ) → n ≤ length l → y ≡ replicate (length (take n l)) a → y ++ drop n l ≡ filled n a l
+  filled_lent y h e = let q : y ≡ replicate n a = e ∙ ap (λ (k : ℕ). replicate k a) (length-take-le n l h) in ap (λ (z : List ℕ). z ++ drop n l) q
 
   pub filled_rest : (i : ℕ) → n ≤ i → get_or (filled n a l) i 0 ≡ get_or l i 0
   filled_rest i h =

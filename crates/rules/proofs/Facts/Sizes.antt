@@ -9,8 +9,6 @@ use native.Mathlib.Omega.{arith}
 use Rattle.std.proofs.Math.ListN.{length}
 use Rattle.std.proofs.lemmas.Bool.{eqb-false}
 use Rattle.rules.specs.declared.Refusal.{Refusal}
-use Rattle.rules.specs.declared.Size.{Size}
-use Rattle.rules.specs.declared.Size.TheVariants.{Entries, Unsized}
 use Rattle.rules.specs.Lists.{◌∈◌, at, sum, concat, range, row_entries}
 use Rattle.rules.specs.Inner.Words.{owners, listing, products, listings, count}
 use Rattle.rules.proofs.Facts.Rows.{map_same, parts_all}
@@ -21,8 +19,9 @@ use Rattle.rules.proofs.Facts.Counts.{count_le}
 use Rattle.rules.proofs.Facts.ConverseTable.{listing_zero, converse-length}
 use Rattle.rules.specs.Calls.{drawing_refusal}
 use Rattle.rules.specs.Inner.Loops.{Counted}
-use Rattle.rules.specs.Refusals.{number, size_refusal}
+use Rattle.rules.specs.Refusals.{number, refusal_of}
 use Rattle.rules.specs.Promises.{RowsSize}
+use Rattle.std.specs.Prelude.{Result, Ok, Err}
 
 -- sums over lists
 sum-append : (f : ℕ → ℕ) (l r : List ℕ) → sum (map f (l ++ r)) ≡ sum (map f l) + sum (map f r)
@@ -150,18 +149,18 @@ module _ (d : Drawing) (a : Accepted d) where
   op_size_fits = omega (arith, sum-most (λ v. count v d.source_values) (length d.source_values) d.target_values (λ v. count_le v d.source_values), square (length d.target_values) (length d.source_values) a.targets.room a.sources.room)
 
 -- what a size tells, at each arm
-pub unsized_number : {k : ℕ} (r : Size) (why : Refusal) → size_refusal r ≡ k → r ≡ Unsized why → number why ≡ k
-unsized_number r why e q = sym (ap size_refusal q) ∙ e
+pub unsized_number : {k : ℕ} (r : Result ℕ Refusal) (why : Refusal) → refusal_of r ≡ k → r ≡ Err why → number why ≡ k
+unsized_number r why e q = sym (ap refusal_of q) ∙ e
 
-pub sized_none : {k : ℕ} (r : Size) (n : ℕ) → size_refusal r ≡ k → r ≡ Entries n → k ≡ 0
-sized_none r n e q = sym e ∙ ap size_refusal q
+pub sized_none : {k : ℕ} (r : Result ℕ Refusal) (n : ℕ) → refusal_of r ≡ k → r ≡ Ok n → k ≡ 0
+sized_none r n e q = sym e ∙ ap refusal_of q
 
 -- The promise of a call that gives a size, at each of its returns.
 module _ (d : Drawing) (rows : ℕ → List ℕ) (k : ℕ) where
-  pub size_faulty : (why : Refusal) → number why ≡ drawing_refusal d → RowsSize d rows k (Unsized why)
+  pub size_faulty : (why : Refusal) → number why ≡ drawing_refusal d → RowsSize d rows k (Err why)
   size_faulty why e = record { refusal = e; size = λ n q. absurd (let z : ◌≡◌ {A = ℕ} 0 1 = cc in omega arith) }
 
-  pub size_given : (size : ℕ) → drawing_refusal d ≡ 0 → size ≡ length (row_entries rows k) → RowsSize d rows k (Entries size)
+  pub size_given : (size : ℕ) → drawing_refusal d ≡ 0 → size ≡ length (row_entries rows k) → RowsSize d rows k (Ok size)
   size_given size e q = record { refusal = sym e; size = λ n p. let r : n ≡ size = cc in r ∙ q }
 
 -- counts that were taken in cleared words

@@ -1,115 +1,170 @@
--- Kahn's walk in a workspace: stores reach the walk's lists and nothing else.
-use Rattle.std.specs.Prelude.{ℕ, suc, ◌+◌, ◌-◌, ◌<◌, ◌≤◌, max, ◌≡◌, refl, List, [], ◌∷◌, ◌++◌, length, get_or, take, drop, set}
-use Rattle.std.proofs.Common.{sym, ap, ◌∙◌, arith, add-one, length-set, length-drop, take-suc-set, get_or-take, length-take-le, eq-eqb, ne_eqb}
+-- Kahn's walk in lists of k words: it begins, a listing is followed, an item is taken in hand and worked off, and it ends.
+use Rattle.std.specs.Prelude.{ℕ, ◌+◌, ◌-◌, ◌<◌, ◌≤◌, max, min, Bool, true, false, ◌≡◌, List, [], ◌∷◌, length, get_or, take, set, replicate, eqb}
+use Rattle.std.proofs.Common.{◌∙◌, arith, add-one, length-take-le, length-set, length-take, length-drop, take-suc-set, get_or-take}
 use Rattle.std.proofs.Math.Decide.{dec_lt}
 use Rattle.std.proofs.Math.ListN.{get_or-eq_default}
-use Rattle.std.proofs.lemmas.List.{take-set-le, drop-set-add}
+use Rattle.std.proofs.lemmas.List.{take-set-le, length-replicate, get_or-replicate}
 use Rattle.rules.specs.Lists.{◌∈◌, seg}
-use Rattle.rules.specs.Inner.Loops.{Raised}
+use Rattle.rules.specs.Inner.Loops.{Counted}
 use Rattle.rules.specs.Inner.Table.{Table, successors, Walked}
-use Rattle.rules.specs.Inner.Walk.{Laid, Standing, Releasable, Released, left, lowered, deepened, degrees_of, queue_of, depths_of}
-use Rattle.rules.specs.Inner.Words.{filled, up_from, count, back}
-use Rattle.rules.proofs.Facts.Counts.{drop_more, count_above}
-use Rattle.rules.proofs.Facts.Kahn.{low, some_left, room_left, follow_one, begin, rested, in_hand, take_up, sorted}
+use Rattle.rules.specs.Inner.Walk.{Laid, Standing, left}
+use Rattle.rules.specs.Inner.Words.{up_from, bit}
+use Rattle.rules.proofs.Facts.Kahn.{low, some_left, follow_one, begin, rested, in_hand, take_up, sorted}
 use Rattle.rules.proofs.Facts.Member.{∈-get_or}
-use Rattle.rules.proofs.Facts.Segments.{back-length, back-before, back_in, filled-length, filled_at, seg_same, seg_in_take, seg-at, seg-length, seg-set_in, seg-set_low, seg-set_high}
-use Rattle.rules.proofs.Facts.Tables.{tails, flat, row, left-all}
-
--- the stores of `release`, without and with a new item of the queue
-module _ (k b tail s far : ℕ) (ws : List ℕ) (a : Laid k b ws) (r : Releasable k b tail s ws) where
-  abbrev g : ℕ
-  g = get_or ws (b + s) 0 - 1
-
-  abbrev f : ℕ
-  f = max (get_or ws (b + k + k + s) 0) far
-
-  abbrev ws₁ : List ℕ
-  ws₁ = set (set ws (b + s) g) (b + k + k + s) f
-
-  long₁ : length ws₁ ≡ length ws
-  long₁ = simp length-set
-
-  table₁ : take b ws₁ ≡ take b ws
-  table₁ = take-set-le b (set ws (b + s) g) (b + k + k + s) f (omega arith) ∙ take-set-le b ws (b + s) g (omega arith)
-
-  degrees₁ : degrees_of k b ws₁ ≡ lowered (degrees_of k b ws) s
-  degrees₁ = rw (seg-set_high b k (set ws (b + s) g) (b + k + k + s) f (omega arith), seg-set_in b k ws s g r.low, seg-at b k ws s r.low)
-
-  depths₁ : depths_of k b ws₁ ≡ deepened (depths_of k b ws) s far
-  depths₁ =
-      rw (seg-set_in (b + k + k) k (set ws (b + s) g) s f r.low, seg-set_low (b + k + k) k ws (b + s) g (omega (arith, r.low)), seg-at (b + k + k) k ws s r.low)
-
-  queue₁ : queue_of k b tail ws₁ ≡ queue_of k b tail ws
-  queue₁ =
-      rw (seg-set_high (b + k) tail (set ws (b + s) g) (b + k + k + s) f (omega (arith, r.within)), seg-set_low (b + k) tail ws (b + s) g (omega (arith, r.low)))
-
-  degree-at : get_or (degrees_of k b ws) s 0 - 1 ≡ g
-  degree-at = rw (seg-at b k ws s r.low)
-
-  pub stayed : ¬ (g ≡ 0) → Released k b tail s far ws tail ws₁
-  stayed z =
-      record {
-        long = long₁;
-        table = table₁;
-        within = r.within;
-        degrees = degrees₁;
-        depths = depths₁;
-        queue = rw (degree-at, ne_eqb g 0 z) queue₁;
-      }
-
-  abbrev ws₂ : List ℕ
-  ws₂ = set ws₁ (b + k + tail) s
-
-  pub joined_up : g ≡ 0 → Released k b tail s far ws (tail + 1) ws₂
-  joined_up z =
-      record {
-        long = simp length-set;
-        table = take-set-le b ws₁ (b + k + tail) s (omega arith) ∙ table₁;
-        within = omega (arith, t);
-        degrees = seg-set_high b k ws₁ (b + k + tail) s (omega arith) ∙ degrees₁;
-        depths = seg-set_low (b + k + k) k ws₁ (b + k + tail) s (omega (arith, t)) ∙ depths₁;
-        queue = rw (degree-at, eq-eqb g 0 z) (pushed ∙ ap (λ (q : List ℕ). q ++ s ∷ []) queue₁);
-      }
-    where
-      t : tail < k
-      t = r.room z
-
-      pushed : queue_of k b (tail + 1) ws₂ ≡ queue_of k b tail ws₁ ++ s ∷ []
-      pushed =
-          rw (drop-set-add (b + k) ws₁ tail s, add-one tail)
-          (take-suc-set (drop (b + k) ws₁) tail s (simp (length-drop, length-set) (omega (arith, a.fits, t))))
+use Rattle.rules.proofs.Facts.Segments.{seg-at}
+use Rattle.rules.proofs.Facts.Stores.{positives-set, some_pos}
+use Rattle.rules.proofs.Facts.Tables.{tails, flat, left-all}
+use Rattle.rules.proofs.Facts.Counts.{drop_more}
+use Rattle.rules.specs.Lists.{seg}
+use Rattle.std.specs.Prelude.{suc}
+use Rattle.rules.specs.Inner.Walk.{Releasable, Released}
+use Rattle.std.specs.Prelude.{refl}
+use Rattle.std.proofs.Common.{ne_eqb, eq-eqb, eqb-true, get_or-set_same}
+use Rattle.std.proofs.lemmas.Bool.{eqb-false}
 
 pub still_laid : {k b : ℕ} {ws ws' : List ℕ} → Laid k b ws → length ws' ≡ length ws → Laid k b ws'
 still_laid a e = record { small = a.small; table = a.table; fits = omega (arith, a.fits) }
 
--- what is worked off is within the queue
-pub worked_within : {t : List ℕ} {k b h tail far : ℕ} {rest ws : List ℕ} → Laid k b ws → Standing t k b h tail rest far ws → h ≤ tail
-worked_within {k = k} {b} {tail = tail} {ws = ws} a w = omega (arith, w.walk.worked, seg-length (b + k) tail ws (omega (arith, a.fits, w.within)))
+-- what is in use of the queue
+queue_long : {next : ℕ → List ℕ} {k h tail far : ℕ} {rest D Q F : List ℕ} → Standing next k h tail rest far D Q F → length (take tail Q) ≡ tail
+queue_long {tail = tail} {Q = Q} w = length-take-le tail Q (omega (arith, w.long, w.within))
+
+pub worked_within : {next : ℕ → List ℕ} {k h tail far : ℕ} {rest D Q F : List ℕ} → Standing next k h tail rest far D Q F → h ≤ tail
+worked_within w = omega (arith, w.walk.worked, queue_long w)
+
+-- s gets a new degree and depth, and comes behind the queue where no listing is left
+module _ (k tail s far : ℕ) (D Q F : List ℕ) (full : length Q ≡ k) (r : Releasable k tail s D) where
+  abbrev g : ℕ
+  g = get_or D s 0 - 1
+
+  abbrev f : ℕ
+  f = max (get_or F s 0) far
+
+  pub stayed : ¬ (g ≡ 0) → Released k tail s far D Q F tail (set D s g) Q (set F s f)
+  stayed z = record { long = refl; within = r.within; degrees = refl; depths = refl; queue = rw (ne_eqb g 0 z) }
+
+  pub joined_up : g ≡ 0 → Released k tail s far D Q F (tail + 1) (set D s g) (set Q tail s) (set F s f)
+  joined_up z =
+      record {
+        long = length-set Q tail s;
+        within = omega (arith, r.room z);
+        degrees = refl;
+        depths = refl;
+        queue = rw (eq-eqb g 0 z, add-one tail) (take-suc-set Q tail s (omega (arith, r.room z, full)));
+      }
+
+  -- s is stored behind the queue in any case
+  pub followed : Released k tail s far D Q F (tail + bit (eqb g 0)) (set D s g) (set Q tail s) (set F s f)
+  followed = go (eqb g 0) refl
+    where
+      go : (b : Bool) → eqb g 0 ≡ b → Released k tail s far D Q F (tail + bit b) (set D s g) (set Q tail s) (set F s f)
+      go true e = joined_up (eqb-true g 0 e)
+      go false e =
+          let y = stayed (eqb-false g 0 e) in
+          let q : tail + 0 ≡ tail = omega arith in
+          rw q (record { long = length-set Q tail s; within = y.within; degrees = refl; depths = refl; queue = take-set-le tail Q tail s (omega arith) ∙ y.queue })
+
+-- the degree and the depth of s stand there
+pub degree_stored : (D : List ℕ) (s left : ℕ) → s < length D → get_or (set D s left) s 0 ≡ left
+degree_stored D s left h = get_or-set_same D s left 0 h
+
+pub depth_stored : (F : List ℕ) (s depth : ℕ) → s < length F → get_or (set F s depth) s 0 ≡ depth
+depth_stored F s depth h = get_or-set_same F s depth 0 h
 
 -- a listing is followed
-module _ {t : List ℕ} {k b h tail s far : ℕ} {rest ws : List ℕ} (a : Laid k b ws) (w : Standing t k b h tail (s ∷ rest) far ws) where
-  queue_long : length (queue_of k b tail ws) ≡ tail
-  queue_long = seg-length (b + k) tail ws (omega (arith, a.fits, w.within))
+module _ {next : ℕ → List ℕ} {k h tail s far : ℕ} {rest D Q F : List ℕ} (w : Standing next k h tail (s ∷ rest) far D Q F) where
+  pub listed_low : s < k
+  listed_low = low w.walk
 
-  degree_read : get_or (degrees_of k b ws) s 0 ≡ get_or ws (b + s) 0
-  degree_read = seg-at b k ws s (low w.walk)
+  pub listed_some : 0 < get_or D s 0
+  listed_some = some_left w.walk
 
-  pub releasable : Releasable k b tail s ws
-  releasable =
-      record {
-        low = low w.walk;
-        some = omega (arith, some_left w.walk, degree_read);
-        within = w.within;
-        room = λ z. omega (arith, room_left w.walk (omega (arith, degree_read)), queue_long);
-      }
+  -- an item that has a listing is not in the queue, so that the queue has room for one more
+  pub room_behind : tail < k
+  room_behind =
+      omega (
+        arith,
+        w.walk.room,
+        queue_long w,
+        positives-set D s 0 (omega (arith, listed_low, w.walk.degrees)),
+        some_pos (get_or D s 0) listed_some,
+      )
 
-  pub release_stands : {tail' : ℕ} {ws' : List ℕ} → Released k b tail s far ws tail' ws' → Standing t k b h tail' rest far ws'
-  release_stands {tail'} {ws'} r =
-      record {
-        table = r.table ∙ w.table;
-        within = r.within;
-        walk = rw (r.queue, r.degrees, r.depths) (follow_one w.walk);
-      }
+  pub releasable : Releasable k tail s D
+  releasable = record { low = listed_low; some = listed_some; within = w.within; room = λ z. room_behind }
+
+  pub release_stands : {tail' : ℕ} {D' Q' F' : List ℕ} → Released k tail s far D Q F tail' D' Q' F' → Standing next k h tail' rest far D' Q' F'
+  release_stands r = record { long = r.long ∙ w.long; within = r.within; walk = rw (r.queue, r.degrees, r.depths) (follow_one w.walk) }
+
+  pub follow_stands : Standing next k h (tail + bit (eqb (get_or D s 0 - 1) 0)) rest far (set D s (get_or D s 0 - 1)) (set Q tail s) (set F s (max (get_or F s 0) far))
+  follow_stands = release_stands (followed k tail s far D Q F w.long releasable)
+
+-- the item at the head of the queue is taken in hand
+module _ {k h tail : ℕ} {t D Q F : List ℕ} (T : Table k t) (w : Standing (successors k t) k h tail [] 0 D Q F) (more : h < tail) where
+  abbrev hand : ℕ
+  hand = get_or Q h 0
+
+  h_in : h < length (take tail Q)
+  h_in = omega (arith, queue_long w)
+
+  hand_is : get_or (take tail Q) h 0 ≡ hand
+  hand_is = get_or-take tail Q h 0 more
+
+  pub hand_low : hand < k
+  hand_low = rw hand_is at (in_hand w.walk h_in T.items)
+
+  pub hand_shallow : get_or F hand 0 ≤ k
+  hand_shallow = omega (arith, w.walk.shallow hand, w.walk.worked, queue_long w, w.within)
+
+  pub taken : Standing (successors k t) k (h + 1) tail (successors k t hand) (get_or F hand 0 + 1) D Q F
+  taken = record { long = w.long; within = w.within; walk = rw hand_is at (take_up w.walk h_in T.items) }
+
+-- the item in hand is worked off
+pub stands_still : {next : ℕ → List ℕ} {k h tail far : ℕ} {D Q F : List ℕ} → Standing next k h tail [] far D Q F → Standing next k h tail [] 0 D Q F
+stands_still w = record { long = w.long; within = w.within; walk = rested w.walk }
+
+-- what all items list
+abbrev pub listings : ℕ → List ℕ → List ℕ
+listings k t = seg (k + 1) (length t - (k + 1)) t
+
+-- each word behind the offsets is an item
+pub items_low : {k : ℕ} {t : List ℕ} → Table k t → (a n : ℕ) → k < a → (v : ℕ) → v ∈ seg a n t → v < k
+items_low {k} {t} T a n h v m =
+    let o = ∈-get_or m in
+    let e : length (seg a n t) ≡ min n (length t - a) = simp (length-take, length-drop) (λ i. min n (length t - a)) in
+    omega (arith, o.there, o.inside, seg-at a n t o.place (omega (arith, o.inside)), flat k t T (a + o.place) (omega arith) (omega (arith, o.inside)))
+
+-- the walk begins
+pub stands_first : {k : ℕ} {t D₀ D Q F : List ℕ} → Table k t → D₀ ≡ replicate k 1 → Counted (listings k t) D₀ D → length Q ≡ k → F ≡ replicate k 0
+    → Standing (successors k t) k 0 0 (up_from 0 k) 0 D Q F
+stands_first {k} {t} {D₀} {D} {Q} {F} T ones c q zeros =
+    record {
+      long = q;
+      within = omega arith;
+      walk = begin (successors k t) k D F (c.long ∙ rw ones (length-replicate k 1)) (rw zeros (length-replicate k 0)) degree depth;
+    }
+  where
+    all : seg (k + 1) (get_or t k 0) t ≡ listings k t
+    all = let e : get_or t k 0 ≡ length t - (k + 1) = omega (arith, T.last) in rw e
+
+    degree : (j : ℕ) → j < k → get_or D j 0 ≡ left (successors k t) [] k j + 1
+    degree j h =
+        let one : get_or D₀ j 0 ≡ 1 = rw ones (get_or-replicate k j 1 0 h) in
+        rw (left-all k t T j k (omega arith), all) (omega (arith, c.each j))
+
+    all_zero : List ℕ
+    all_zero = replicate k 0
+
+    zero_at : (j : ℕ) → Dec (j < k) → get_or all_zero j 0 ≡ 0
+    zero_at j (yes h) = get_or-replicate k j 0 0 h
+    zero_at j (no n) = get_or-eq_default all_zero 0 {n = j} (omega (arith, length-replicate {A = ℕ} k 0))
+
+    depth : (j : ℕ) → get_or F j 0 ≡ 0
+    depth j = rw zeros (zero_at j (dec_lt j k))
+
+-- the walk is over
+pub stands_last : (t : List ℕ) {D Q F : List ℕ} {k h tail : ℕ} → Standing (successors k t) k h tail [] 0 D Q F → h ≤ tail → tail ≤ h → Walked (successors k t) k tail D F
+stands_last t {D} {Q} {F} {k} {h} {tail} w l r = let e = queue_long w in rw e at (sorted w.walk (omega (arith, e)) (tails k t))
 
 -- the listings of a row from place p on
 abbrev pub row_from : ℕ → List ℕ → ℕ → ℕ → List ℕ
@@ -123,167 +178,3 @@ row_more k t p end h b =
 
 pub row_over : (k : ℕ) (t : List ℕ) (p end : ℕ) → end ≤ p → row_from k t p end ≡ []
 row_over k t p end h = let e : end - p ≡ 0 = omega arith in rw e
-
--- the item at the head of the queue is taken in hand
-module _ {k b h tail : ℕ} {ws : List ℕ} (a : Laid k b ws) (T : Table k (take b ws)) (w : Standing (take b ws) k b h tail [] 0 ws) (more : h < tail) where
-  abbrev hand : ℕ
-  hand = get_or ws (b + k + h) 0
-
-  queue_is : length (queue_of k b tail ws) ≡ tail
-  queue_is = seg-length (b + k) tail ws (omega (arith, a.fits, w.within))
-
-  h_in : h < length (queue_of k b tail ws)
-  h_in = omega (arith, queue_is)
-
-  hand_is : get_or (queue_of k b tail ws) h 0 ≡ hand
-  hand_is = seg-at (b + k) tail ws h more
-
-  pub hand_low : hand < k
-  hand_low = rw hand_is at (in_hand w.walk h_in T.items)
-
-  pub hand_shallow : get_or ws (b + k + k + hand) 0 ≤ k
-  hand_shallow = omega (arith, w.walk.shallow hand, seg-at (b + k + k) k ws hand hand_low, w.walk.worked, queue_is, w.within)
-
-  -- what the code reads of the table is what the table's prefix holds
-  pub table_at : (p : ℕ) → p < b → get_or (take b ws) p 0 ≡ get_or ws p 0
-  table_at p l = get_or-take b ws p 0 l
-
-  pub taken : Standing (take b ws) k b (h + 1) tail (row_from k (take b ws) (get_or ws hand 0) (get_or ws (hand + 1) 0)) (get_or ws (b + k + k + hand) 0 + 1) ws
-  taken = record { table = refl; within = w.within; walk = rw hand_list at (rw hand_far at (rw hand_is at (take_up w.walk h_in T.items))) }
-    where
-      hand_far : get_or (depths_of k b ws) hand 0 ≡ get_or ws (b + k + k + hand) 0
-      hand_far = seg-at (b + k + k) k ws hand hand_low
-
-      hand_list : successors k (take b ws) hand ≡ row_from k (take b ws) (get_or ws hand 0) (get_or ws (hand + 1) 0)
-      hand_list = row k (take b ws) hand hand_low ∙ rw (table_at hand (omega (arith, hand_low, a.table)), table_at (hand + 1) (omega (arith, hand_low, a.table)))
-
--- the item in hand is worked off
-pub stands_still : {t : List ℕ} {k b h tail far : ℕ} {ws : List ℕ} → Standing t k b h tail [] far ws → Standing t k b h tail [] 0 ws
-stands_still w = record { table = w.table; within = w.within; walk = rested w.walk }
-
--- the walk begins
-pub stands_first : {k b : ℕ} (ws : List ℕ) {ws' : List ℕ} → Laid k b ws' → Table k (take b ws) → take b ws' ≡ take b ws
-    → ((j : ℕ) → j < k → get_or ws' (b + j) 0 ≡ 1 + count j (seg (k + 1) (b - (k + 1)) ws)) → ((j : ℕ) → j < k → get_or ws' (b + k + k + j) 0 ≡ 0)
-    → length ws' ≡ length ws → Standing (take b ws) k b 0 0 (up_from 0 k) 0 ws'
-stands_first {k} {b} ws {ws'} a T same deg deep long =
-    record {
-      table = same;
-      within = omega arith;
-      walk =
-          begin (successors k t) k (degrees_of k b ws') (depths_of k b ws')
-          (seg-length b k ws' (omega (arith, a.fits))) long_depths
-          degree depth;
-    }
-  where
-    t : List ℕ
-    t = take b ws
-
-    t_long : length t ≡ b
-    t_long = length-take-le b ws (omega (arith, a.fits))
-
-    long_depths : length (depths_of k b ws') ≡ k
-    long_depths = seg-length (b + k + k) k ws' (omega (arith, a.fits))
-
-    items : seg (k + 1) (get_or t k 0) t ≡ seg (k + 1) (b - (k + 1)) ws
-    items =
-        let e : get_or t k 0 ≡ b - (k + 1) = omega (arith, T.last, t_long) in
-        rw e (seg_in_take (k + 1) (b - (k + 1)) b ws (omega (arith, a.table)))
-
-    degree : (j : ℕ) → j < k → get_or (degrees_of k b ws') j 0 ≡ left (successors k t) [] k j + 1
-    degree j h = rw (seg-at b k ws' j h, left-all k t T j k (omega arith), items) (omega (arith, deg j h))
-
-    depth : (j : ℕ) → get_or (depths_of k b ws') j 0 ≡ 0
-    depth j = go (dec_lt j k)
-      where
-        go : Dec (j < k) → get_or (depths_of k b ws') j 0 ≡ 0
-        go (yes h) = seg-at (b + k + k) k ws' j h ∙ deep j h
-        go (no n) = get_or-eq_default (depths_of k b ws') 0 {n = j} (omega (arith, long_depths))
-
--- `prepare` has filled degrees and depths: each was lent as a part, of p and q words, and came back as y and z
-pub record Filling (k b p q : ℕ) (ws y z : List ℕ) : Type 0 where
-  pub laid : Laid k b ws
-  pub table : Table k (take b ws)
-  pub p_is : p ≡ k
-  pub q_is : q ≡ k
-  pub degrees : y ≡ filled k 1 (seg b p ws)
-  pub depths : z ≡ filled k 0 (seg (b + k + k) q (back b p y ws))
-
--- and then the listings are counted
-module _ {k b p q : ℕ} {ws y z : List ℕ} (f : Filling k b p q ws y z) where
-  abbrev wy : List ℕ
-  wy = back b p y ws
-
-  abbrev wz : List ℕ
-  wz = back (b + k + k) q z wy
-
-  part_y : length (seg b p ws) ≡ k
-  part_y = seg-length b p ws (omega (arith, f.laid.fits)) ∙ f.p_is
-
-  y_long : length y ≡ p
-  y_long = rw f.degrees (filled-length k 1 (seg b p ws) part_y ∙ sym f.p_is)
-
-  wy_long : length wy ≡ length ws
-  wy_long = back-length b p y ws (omega (arith, f.laid.fits)) y_long
-
-  part_z : length (seg (b + k + k) q wy) ≡ k
-  part_z = seg-length (b + k + k) q wy (omega (arith, f.laid.fits, wy_long)) ∙ f.q_is
-
-  z_long : length z ≡ q
-  z_long = rw f.depths (filled-length k 0 (seg (b + k + k) q wy) part_z ∙ sym f.q_is)
-
-  pub wz_long : length wz ≡ length ws
-  wz_long = back-length (b + k + k) q z wy (omega (arith, f.laid.fits, wy_long)) z_long ∙ wy_long
-
-  -- what stands before the depths, the degrees, and the depths
-  before_depths : (i : ℕ) → i < b + k + k → get_or wz i 0 ≡ get_or wy i 0
-  before_depths i h = back-before (b + k + k) q z wy (omega (arith, f.laid.fits, wy_long)) z_long i h
-
-  pub table_kept : (i : ℕ) → i < b → get_or wz i 0 ≡ get_or ws i 0
-  table_kept i h = before_depths i (omega arith) ∙ back-before b p y ws (omega (arith, f.laid.fits)) y_long i h
-
-  pub ones : (j : ℕ) → j < k → get_or wz (b + j) 0 ≡ 1
-  ones j h =
-      before_depths (b + j) (omega arith) ∙ back_in b p y ws (omega (arith, f.laid.fits)) y_long j (omega arith)
-      ∙ rw f.degrees (filled_at k 1 (seg b p ws) part_y j h)
-
-  zeros : (j : ℕ) → j < k → get_or wz (b + k + k + j) 0 ≡ 0
-  zeros j h =
-      back_in (b + k + k) q z wy (omega (arith, f.laid.fits, wy_long)) z_long j (omega arith)
-      ∙ rw f.depths (filled_at k 0 (seg (b + k + k) q wy) part_z j h)
-
-  items_kept : seg (k + 1) (b - (k + 1)) wz ≡ seg (k + 1) (b - (k + 1)) ws
-  items_kept = seg_same (k + 1) (b - (k + 1)) ws wz (omega (arith, f.laid.fits, f.laid.table)) wz_long (λ i h. table_kept (k + 1 + i) (omega arith))
-
-  pub items_low : (v : ℕ) → v ∈ seg (k + 1) (b - (k + 1)) wz → v < k
-  items_low v m =
-      let o = ∈-get_or (rw items_kept at m) in
-      let l : length (take b ws) ≡ b = length-take-le b ws (omega (arith, f.laid.fits)) in
-      let n : o.place < b - (k + 1) = omega (arith, o.inside, seg-length (k + 1) (b - (k + 1)) ws (omega (arith, f.laid.fits, f.laid.table))) in
-      omega (
-        arith,
-        o.there,
-        seg-at (k + 1) (b - (k + 1)) ws o.place n,
-        get_or-take b ws (k + 1 + o.place) 0 (omega arith),
-        flat k (take b ws) f.table (k + 1 + o.place) (omega arith) (omega arith),
-      )
-
-  pub prepared : (ws' : List ℕ) → Raised b (seg (k + 1) (b - (k + 1)) wz) wz ws' → Standing (take b ws) k b 0 0 (up_from 0 k) 0 ws'
-  prepared ws' r =
-      stands_first ws (still_laid f.laid long') f.table
-      (seg_same 0 b ws ws' (omega (arith, f.laid.fits)) long' (λ i h. r.before (0 + i) (omega arith) ∙ table_kept (0 + i) (omega arith)))
-      (λ j h. omega (arith, r.each j, ones j h, ap (count j) items_kept))
-      (λ j h. let e : b + k + k + j ≡ b + (k + k + j) = omega arith in
-      let u = r.each (k + k + j) in
-      let c = count_above (seg (k + 1) (b - (k + 1)) wz) k (k + k + j) items_low (omega arith) in
-      rw e (omega (arith, rw e at (zeros j h))))
-      long'
-    where
-      long' : length ws' ≡ length ws
-      long' = r.long ∙ wz_long
-
--- the walk is over
-pub stands_last : {t : List ℕ} {k b h tail : ℕ} {ws : List ℕ} → Laid k b ws → Standing t k b h tail [] 0 ws → h ≤ tail → tail ≤ h
-    → Walked (successors k t) k tail (degrees_of k b ws) (depths_of k b ws)
-stands_last {t} {k} {b} {h} {tail} {ws} a w l r =
-    let e : length (queue_of k b tail ws) ≡ tail = seg-length (b + k) tail ws (omega (arith, a.fits, w.within)) in
-    rw e at (sorted w.walk (omega arith) (tails k t))

@@ -15,7 +15,9 @@ use Rattle.rules.specs.Inner.Walk.{left}
 use Rattle.rules.specs.Inner.Words.{count}
 use Rattle.rules.proofs.Facts.Counts.{count_nil, count-append}
 use Rattle.rules.proofs.Facts.Member.{get_or-∈}
+use Rattle.rules.specs.Inner.Search.{Row}
 use Rattle.rules.proofs.Facts.Segments.{seg-at, seg-length}
+use Rattle.std.specs.Prelude.{take}
 
 -- an item's row, and an item past the last has none
 pub row : (k : ℕ) (t : List ℕ) (i : ℕ) → i < k → successors k t i ≡ seg (k + 1 + get_or t i 0) (get_or t (i + 1) 0 - get_or t i 0) t
@@ -79,3 +81,13 @@ module _ (k : ℕ) (t : List ℕ) (T : Table k t) where
       let a : seg (k + 1) (get_or t (i + 1) 0) t ≡ seg (k + 1) (get_or t i 0) t ++ successors k t i =
       ap (λ (n : ℕ). seg (k + 1) n t) (sym s) ∙ take-add (get_or t i 0) (get_or t (i + 1) 0 - get_or t i 0) (drop (k + 1) t) ∙ rw (row k t i (omega arith), drop-drop) in
       rw (← q, a, count-append j (seg (k + 1) (get_or t i 0) t) (successors k t i)) (omega (arith, left-all j i (omega arith)))
+
+-- every row of a table lies in it
+pub table_row : {k : ℕ} {t : List ℕ} → Table k t → (i : ℕ) → i < k → Row k t i
+table_row {k} {t} T i h = record { low = h; rises = T.rises i h; fits = row_end k t T (i + 1) (omega arith) }
+
+-- a row is the part between its offsets, as it is cut out
+pub row_part : {k : ℕ} {t : List ℕ} {i : ℕ} → Row k t i → take (k + 1 + get_or t (i + 1) 0 - (k + 1 + get_or t i 0)) (drop (k + 1 + get_or t i 0) t) ≡ successors k t i
+row_part {k} {t} {i} r =
+    let e : k + 1 + get_or t (i + 1) 0 - (k + 1 + get_or t i 0) ≡ get_or t (i + 1) 0 - get_or t i 0 = omega arith in
+    rw (e, row k t i r.low)

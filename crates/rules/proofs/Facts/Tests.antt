@@ -1,8 +1,9 @@
 -- What the tests of the rules tell, and that they find it: lists of tests, entries below a number, equal lists, first_of.
+use Rattle.std.specs.List.{list_any}
 use Rattle.std.specs.Prelude.{ℕ, zero, suc, ◌<◌, Bool, true, false, ◌&&◌, List, [], ◌∷◌, ◌≡◌, refl, eqb, ltb}
 use Rattle.std.proofs.Common.{arith, eqb-true, eq-eqb, ltb-true, lt-ltb}
 use mathlib.Core.List.Memᴰ
-use Rattle.rules.specs.Lists.{◌∈◌, all_below, same_list, all}
+use Rattle.rules.specs.Lists.{◌∈◌, all_below, same_list, all, has}
 use Rattle.rules.specs.Refusals.{first_of, unless}
 
 -- false is not true
@@ -82,3 +83,8 @@ unless-none false k h e = absurd (omega arith)
 
 pub none-unless : (b : Bool) (k : ℕ) → b ≡ true → unless b k ≡ 0
 none-unless b k e = rw e
+
+-- std's test asks of each number whether it is a, and not whether a is the number
+pub has_any : (l : List ℕ) (a : ℕ) → list_any (λ y. eqb y a) l ≡ has l a
+has_any [] a = refl
+has_any (y ∷ l) a = let h = has_any l a in grind (arith, h)

@@ -1,14 +1,17 @@
--- Laws of a text's words: one step of each rule at `drop i`, as a loop over the bytes goes; when a word is a number; the number at a place.
+-- Laws of a text's words: one step of each rule at `drop i`, as a loop over the bytes goes; when a word is a number.
 use Rattle.std.specs.Prelude.{ℕ, ◌+◌, ◌-◌, ◌*◌, ◌^◌, ◌≤◌, ◌<◌, Bool, true, false, cond, List, [], ◌∷◌, ◌≡◌, refl, get_or, take, drop, leb}
 use Rattle.std.proofs.Common.{ap, add-one, drop_of_length-le, lit<}
 use Rattle.std.proofs.Math.Nat.{pow-succ', pow-le-pow_right}
 use native.Mathlib.Omega.{arith}
 use Rattle.std.proofs.Math.ListN.{length}
-use borrow.Author.Tests.{ne_eqb, eq-eqb, le-leb, lt-leb, leb-true}
-use Rattle.rules.specs.Text.{separator, digit, blanks, word, all_digits, worth, word_as, number_at}
-use Rattle.rules.specs.declared.Number.TheVariants.{Value, Nothing, Bad}
+use borrow.Author.Tests.{le-leb, lt-leb, leb-true}
+use Rattle.rules.specs.Text.{separator, digit, blanks, word, all_digits, worth, is_number}
 use Rattle.rules.proofs.Facts.Tests.{both}
 use Rattle.rules.proofs.Facts.Counts.{drop_more}
+use Rattle.std.specs.Prelude.{Ok, Err, Some, None}
+use Rattle.rules.specs.Text.{number_at, word_as}
+use Rattle.rules.specs.declared.Refusal.TheVariants.{BadText}
+use borrow.Author.Tests.{eq-eqb, ne_eqb}
 
 module _ (l : List ℕ) (i : ℕ) (h : i < length l) where
   pub blanks_more : separator (get_or l i 0) ≡ true → blanks (drop i l) ≡ 1 + blanks (drop (i + 1) l)
@@ -87,23 +90,35 @@ grows n d i h k = rw (add-one, pow-succ') (omega arith)
 pub ten_digits : (i : ℕ) → i ≤ 10 → 10 ^ i ≤ 10000000000
 ten_digits i h = pow-le-pow_right {n = 10} (lit< tt) h
 
+-- when a word is a number
+module _ (w : List ℕ) (h : length w ≤ 10) where
+  pub undigited : all_digits w ≡ false → is_number w ≡ false
+  undigited d = rw (le-leb (length w) 10 h, d)
+
+  pub over_word : all_digits w ≡ true → 4294967295 < worth 0 w → is_number w ≡ false
+  over_word d b = rw (le-leb (length w) 10 h, d, lt-leb (worth 0 w) 4294967295 b)
+
+  pub within_word : all_digits w ≡ true → worth 0 w ≤ 4294967295 → is_number w ≡ true
+  within_word d b = rw (le-leb (length w) 10 h, d, le-leb (worth 0 w) 4294967295 b)
+
+-- a word as a number, refused or read
 module _ (w : List ℕ) (end : ℕ) where
-  pub too_long : 10 < length w → Bad ≡ word_as w end
+  pub too_long : 10 < length w → Err BadText ≡ word_as w end
   too_long h = rw (lt-leb (length w) 10 h)
 
   module _ (h : length w ≤ 10) where
-    pub no_digits : all_digits w ≡ false → Bad ≡ word_as w end
+    pub no_digits : all_digits w ≡ false → Err BadText ≡ word_as w end
     no_digits d = rw (le-leb (length w) 10 h, d)
 
-    pub too_large : all_digits w ≡ true → (n : ℕ) → worth 0 w ≡ n → 4294967295 < n → Bad ≡ word_as w end
+    pub too_large : all_digits w ≡ true → (n : ℕ) → worth 0 w ≡ n → 4294967295 < n → Err BadText ≡ word_as w end
     too_large d n e b = rw (le-leb (length w) 10 h, d, lt-leb (worth 0 w) 4294967295 (omega arith))
 
-    pub fine_word : all_digits w ≡ true → (n : ℕ) → worth 0 w ≡ n → n ≤ 4294967295 → Value n end ≡ word_as w end
+    pub fine_word : all_digits w ≡ true → (n : ℕ) → worth 0 w ≡ n → n ≤ 4294967295 → Ok (Some (n, end)) ≡ word_as w end
     fine_word d n e b = rw (le-leb (length w) 10 h, d, le-leb (worth 0 w) 4294967295 (omega arith), e)
 
 -- The number at a place; s and e: where its word begins and ends.
 module _ (t : List ℕ) (at s e : ℕ) (begins : s ≡ at + blanks (drop at t)) (ends : e ≡ s + length (word (drop s t))) where
-  pub nothing_left : e ≡ s → Nothing ≡ number_at t at
+  pub nothing_left : e ≡ s → Ok None ≡ number_at t at
   unfolding number_at
   nothing_left q = rw (← begins, eq-eqb (length (word (drop s t))) 0 (omega arith))
 

@@ -1,27 +1,26 @@
 -- A verdict at a call's returns: refused, or decided in the front of its workspace.
-use Rattle.std.specs.Prelude.{ℕ, Bool, true, false, cond, List, ◌++◌, ◌≡◌, refl, drop}
-use Rattle.std.proofs.Common.{arith, sym, ◌∙◌}
+use Rattle.std.specs.Prelude.{ℕ, Bool, List, ◌++◌, ◌≡◌, drop}
+use Rattle.std.proofs.Common.{arith, sym}
 use Rattle.rules.specs.declared.Refusal.{Refusal}
-use Rattle.rules.specs.declared.Verdict.TheVariants.{Yes, No, Refused}
-use Rattle.rules.specs.Refusals.{number, verdict_refusal}
+use Rattle.rules.specs.Refusals.{number}
 use Rattle.rules.specs.Inner.Decides.{Decides, Answers}
 use Rattle.rules.proofs.Facts.Refusing.{Early, early-left, number-some}
+use Rattle.std.specs.Prelude.{Ok, Err}
+use Rattle.std.specs.Prelude.{true, false, refl, Result}
+use Rattle.rules.specs.Refusals.{refusal_of}
 
 -- yes or no is no refusal, and the other way round
-pub given : (r : Bool) → verdict_refusal (cond r Yes No) ≡ 0
-given true = refl
-given false = refl
+pub given : (r : Bool) → refusal_of (Ok r) ≡ 0
+given r = refl
 
-pub yes_is : (r : Bool) → cond r Yes No ≡ Yes → r ≡ true
-yes_is true q = refl
-yes_is false q = absurd (let z : ◌≡◌ {A = ℕ} 0 1 = cc in omega arith)
+pub yes_is : (r : Bool) → ◌≡◌ {A = Result Bool Refusal} (Ok r) (Ok true) → r ≡ true
+yes_is r q = cc
 
-pub no_is : (r : Bool) → cond r Yes No ≡ No → r ≡ false
-no_is true q = absurd (let z : ◌≡◌ {A = ℕ} 0 1 = cc in omega arith)
-no_is false q = refl
+pub no_is : (r : Bool) → ◌≡◌ {A = Result Bool Refusal} (Ok r) (Ok false) → r ≡ false
+no_is r q = cc
 
 module _ (P : Type 0) (refused words : ℕ) (ws : List ℕ) where
-  pub answers_refused : (why : Refusal) → number why ≡ refused → Early refused → Answers P refused words ws ws (Refused why)
+  pub answers_refused : (why : Refusal) → number why ≡ refused → Early refused → Answers P refused words ws ws (Err why)
   answers_refused why e early =
       record {
         refusal = e;
@@ -30,11 +29,11 @@ module _ (P : Type 0) (refused words : ℕ) (ws : List ℕ) where
         workspace = early-left (number why) words ws (rw e early) (number-some why);
       }
 
-  pub answers_decided : (l : List ℕ) (r : Bool) → refused ≡ 0 → Decides P words l r → Answers P refused words ws (l ++ drop words ws) (cond r Yes No)
+  pub answers_decided : (l : List ℕ) (r : Bool) → refused ≡ 0 → Decides P words l r → Answers P refused words ws (l ++ drop words ws) (Ok r)
   answers_decided l r e p =
       record {
-        refusal = given r ∙ sym e;
-        yes = λ q. p.yes (yes_is r q);
-        no = λ q. p.no (no_is r q);
-        workspace = rw (p.clear, given r);
+        refusal = sym e;
+        yes = λ q. p.yes cc;
+        no = λ q. p.no cc;
+        workspace = rw p.clear;
       }

@@ -1,19 +1,17 @@
 -- The twelve worked cases hold of every run of the calls.
-use Rattle.std.specs.Prelude.{ℕ, ◌+◌, ◌≤◌, List, [], ◌∷◌, ◌≡◌, refl, T, length, not}
+use Rattle.std.specs.Prelude.{ℕ, ◌+◌, ◌≤◌, List, [], ◌∷◌, ◌≡◌, refl, T, length, not, Bool, true, false}
 use Rattle.std.proofs.Common.{arith, ap, ◌∙◌}
 use Rattle.rules.specs.Lists.{any, all, those, all_below, same_list, row_lengths, row_entries}
 use Rattle.rules.specs.Drawing.{Drawing, Maps, Boundary, part, node_count, op_count, maps, boundary}
 use Rattle.rules.specs.Graph.{ends, longest_below, mark, order}
 use Rattle.rules.specs.Analysis.{converse, node_next, op_next, Acyclic, orders, marks, layer_of, starts, layer_operations, layer_offsets}
 use Rattle.rules.specs.Maps.{nodes_of, ops_of, Convex}
-use Rattle.rules.specs.Refusals.{refusal_of, verdict_refusal, written, first_of}
+use Rattle.rules.specs.Refusals.{refusal_of, written, first_of}
 use Rattle.rules.specs.Calls.{drawing_refusal, boundary_refusal, natural_refusal}
 use Rattle.rules.specs.Evaluation.{operation, store_all, run_layer, run, evaluated, unplaced_op, wrong_operation}
 use Rattle.rules.specs.Inner.Arrow.{arrow_inputs_refusal}
 use Rattle.rules.specs.Worked.{empty, lone, D, arrow, two_arrows, two_nodes, loop, one_node, four, twice, cross}
 use Rattle.rules.specs.WorkedCalls.{SaysAcyclic, SaysConvex, NoByRoad, Holds, Sorts, Layers, OperationsAdjacent, NodesAdjacent, Evaluates, WorkedCalls}
-use Rattle.rules.specs.declared.Verdict.{Verdict}
-use Rattle.rules.specs.declared.Verdict.TheVariants.{Yes, No, Refused}
 use Rattle.rules.proofs.Facts.Refusing.{number-some}
 use Rattle.rules.proofs.Facts.Fine.{none_fine}
 use Rattle.rules.proofs.Facts.Rooms.{acyclic_enough, two_enough, layered_enough}
@@ -23,23 +21,25 @@ use Rattle.rules.proofs.Facts.Output.{eval_refused}
 use Rattle.rules.proofs.Facts.Reach.{reach}
 use Rattle.rules.proofs.Facts.Decide.{reach_b, no_road_b, distinct, is-injective, is_road}
 use Rattle.rules.proofs.Facts.Worked.{worked}
+use Rattle.std.specs.Prelude.{Result, Ok, Err}
+use Rattle.rules.specs.declared.Refusal.{Refusal}
 
 -- a verdict that is not refused, on what holds and on what does not
-says_yes : {P : Type 0} (r : Verdict) → verdict_refusal r ≡ 0 → (r ≡ No → ¬ P) → P → r ≡ Yes
-says_yes Yes e h p = refl
-says_yes No e h p = absurd (h refl p)
-says_yes (Refused why) e h p = absurd (number-some why e)
+says_yes : {P : Type 0} (r : Result Bool Refusal) → refusal_of r ≡ 0 → (r ≡ Ok false → ¬ P) → P → r ≡ Ok true
+says_yes (Ok true) e h p = refl
+says_yes (Ok false) e h p = absurd (h refl p)
+says_yes (Err why) e h p = absurd (number-some why e)
 
-says_no : {P : Type 0} (r : Verdict) → verdict_refusal r ≡ 0 → (r ≡ Yes → P) → ¬ P → r ≡ No
-says_no Yes e h n = absurd (n (h refl))
-says_no No e h n = refl
-says_no (Refused why) e h n = absurd (number-some why e)
+says_no : {P : Type 0} (r : Result Bool Refusal) → refusal_of r ≡ 0 → (r ≡ Ok true → P) → ¬ P → r ≡ Ok false
+says_no (Ok true) e h n = absurd (n (h refl))
+says_no (Ok false) e h n = refl
+says_no (Err why) e h n = absurd (number-some why e)
 
-acyclic_yes : (d : Drawing) → drawing_refusal d ≡ 0 → Acyclic d → SaysAcyclic d Yes
+acyclic_yes : (d : Drawing) → drawing_refusal d ≡ 0 → Acyclic d → SaysAcyclic d (Ok true)
 acyclic_yes d z a ws ws' r h p = says_yes r (p.refusal ∙ acyclic_enough d z (length ws) h) p.no a
 
 module _ (c d : Drawing) (f : Maps) (z : arrow_inputs_refusal c d f ≡ 0) where
-  convex_yes : Convex c d f → SaysConvex c d f Yes
+  convex_yes : Convex c d f → SaysConvex c d f (Ok true)
   convex_yes a ws ws' r h p = says_yes r (p.refusal ∙ convex_enough c d f (length ws) z h) p.no a
 
   no_by_road : drawing_refusal d ≡ 0 → natural_refusal c d f ≡ 0 → T (distinct (nodes_of f)) → T (distinct (ops_of f)) → T (not (no_road_b d (nodes_of f) (ops_of f))) → NoByRoad c d f

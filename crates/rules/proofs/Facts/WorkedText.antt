@@ -1,5 +1,5 @@
 -- The text's rules at work: each example is computed. Texts in document 01's format, what is read of them, and what the program writes.
-use Rattle.std.specs.Prelude.{[], ◌∷◌, ◌≡◌, refl}
+use Rattle.std.specs.Prelude.{[], ◌∷◌, ◌≡◌, refl, Ok, Err, Some}
 use Rattle.rules.specs.Chars.{bytes}
 use Rattle.rules.specs.Lists.{any, all, those, all_below}
 use Rattle.rules.specs.Drawing.{part}
@@ -8,7 +8,6 @@ use Rattle.rules.specs.Analysis.{converse, op_next, layer_of}
 use Rattle.rules.specs.Calls.{boundary_refusal}
 use Rattle.rules.specs.Evaluation.{operation, place_of, store_all, run_layer, run, evaluated}
 use Rattle.rules.specs.Text.{blanks, word, all_digits, worth, number_at, numbers_at, section_at, whole, broken, sections_at, whole_text}
-use Rattle.rules.specs.declared.Number.TheVariants.{Value, Bad}
 use Rattle.rules.specs.declared.Refusal.TheVariants.{OverLimit, BadText}
 use Rattle.rules.specs.Program.{spelled, decimal, lines, operation_lines, column, answer, output_of}
 
@@ -20,14 +19,14 @@ pub record WorkedText : Type 0 where
   -- a number ends at a separator or at the end
   pub letter : whole_text (bytes "300x") ≡ broken [] [] BadText
   -- one to ten digits, at most 4294967295
-  pub large : number_at (bytes "4294967296 ") 0 ≡ Bad
-  pub largest : number_at (bytes " \t4294967295") 0 ≡ Value 4294967295 12
-  pub ten : number_at (bytes "0000000257") 0 ≡ Value 257 10
-  pub eleven : number_at (bytes "00000000001") 0 ≡ Bad
+  pub large : number_at (bytes "4294967296 ") 0 ≡ Err BadText
+  pub largest : number_at (bytes " \t4294967295") 0 ≡ Ok (Some (4294967295, 12))
+  pub ten : number_at (bytes "0000000257") 0 ≡ Ok (Some (257, 10))
+  pub eleven : number_at (bytes "00000000001") 0 ≡ Err BadText
   pub ten_count : whole_text (bytes "0000000257") ≡ broken [] [] OverLimit
   -- all four separators, which may also stand first; a vertical tab is none
-  pub separators : number_at (32 ∷ 9 ∷ 10 ∷ 13 ∷ 55 ∷ 13 ∷ []) 0 ≡ Value 7 5
-  pub other : number_at (11 ∷ 49 ∷ []) 0 ≡ Bad
+  pub separators : number_at (32 ∷ 9 ∷ 10 ∷ 13 ∷ 55 ∷ 13 ∷ []) 0 ≡ Ok (Some (7, 5))
+  pub other : number_at (11 ∷ 49 ∷ []) 0 ≡ Err BadText
   -- a count over its limit stands left of what is missing
   pub cut : whole_text (bytes "1 7 257 ,,,") ≡ broken ((7 ∷ []) ∷ []) [] OverLimit
   -- 256 numbers and 1,024 values are counted, one more is not

@@ -4,8 +4,14 @@ use Rattle.rules.specs.Lists.{at, has, all, range}
 use Rattle.rules.specs.Drawing.{Drawing, Boundary}
 use Rattle.rules.specs.Refusals.{first_of, unless, within, boundary_within, values_within, bad_lengths, bad_value, bad_boundary, short_room, workspace_need, refusal_of, written}
 use Rattle.rules.specs.Evaluation.{operation, suits, evaluated, unplaced_op, wrong_operation}
-use Rattle.rules.specs.declared.Done.{Done}
 use Rattle.rules.specs.Inner.Running.{Runs, memory_of}
+use Rattle.std.specs.Prelude.{Result}
+use Rattle.rules.specs.declared.Refusal.{Refusal}
+
+-- 1, 2, 3, 12
+unfoldable pub input_refusal : (d : Drawing) (b : Boundary) (values : List ℕ) → ℕ
+input_refusal d b values =
+    first_of (unless (within d && boundary_within b && values_within values) 1 ∷ bad_lengths d ∷ bad_value d ∷ bad_boundary d b ∷ [])
 
 -- 1, 2, 3, 12, 11
 abbrev pub early_checks : (d : Drawing) (b : Boundary) (values : List ℕ) (output_room room : ℕ) → List ℕ
@@ -40,13 +46,13 @@ pub record Prepared (d : Drawing) (memory ws ws' : List ℕ) : Type 0 where
   pub holds : memory_of d ws' ≡ memory
 
 -- decided and run, in W words and an output of just the room that it needs
-pub record Attempted (d : Drawing) (b : Boundary) (values out out' ws ws' : List ℕ) (r : Done) : Type 0 where
+pub record Attempted (d : Drawing) (b : Boundary) (values out out' ws ws' : List ℕ) (r : Result Unit Refusal) : Type 0 where
   pub refusal : refusal_of r ≡ late_refusal d
   pub output : out' ≡ written (refusal_of r) (evaluated d b values) out
   pub long : length ws' ≡ length ws
 
 -- and cleared
-pub record Evaluated (d : Drawing) (b : Boundary) (values out out' ws' : List ℕ) (r : Done) : Type 0 where
+pub record Evaluated (d : Drawing) (b : Boundary) (values out out' ws' : List ℕ) (r : Result Unit Refusal) : Type 0 where
   pub refusal : refusal_of r ≡ late_refusal d
   pub output : out' ≡ written (refusal_of r) (evaluated d b values) out
   pub clear : ws' ≡ replicate (workspace_need d) 0

@@ -24,11 +24,12 @@ pub record Tabled (rows : ℕ → List ℕ) (k : ℕ) (off vals : List ℕ) : Ty
 abbrev pub ConverseTable : ℕ → List ℕ → List ℕ → List ℕ → Type 0
 ConverseTable n lens vals t = Tabled (converse lens vals) n (take (n + 1) t) (drop (n + 1) t)
 
--- t is to become that table: in its first n + 1 words stands how often each number is listed
-pub record Tallied (n : ℕ) (lens vals t : List ℕ) : Type 0 where
+-- off and entries are to become that table: in the n + 1 offsets stands how often each number is listed
+pub record Tallied (n : ℕ) (lens vals off entries : List ℕ) : Type 0 where
   pub listed : Listed n 0 lens vals
-  pub long : length t ≡ n + 1 + length vals
-  pub each : (v : ℕ) → v ≤ n → get_or t v 0 ≡ count v vals
+  pub long : length off ≡ n + 1
+  pub room : length entries ≡ length vals
+  pub each : (v : ℕ) → v ≤ n → get_or off v 0 ≡ count v vals
 
 -- the offsets of lists that are given by their lengths
 pub record Starts (lens off : List ℕ) : Type 0 where

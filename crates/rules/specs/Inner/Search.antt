@@ -1,9 +1,7 @@
--- The convexity walk: what a search along successor lists finds, how it stands between two rows, and where it is kept in a workspace.
+-- The convexity walk: what a search along successor lists finds, and how its queue and marks stand between two rows.
 -- No promise cites this file.
-use Rattle.std.specs.Prelude.{ℕ, ◌+◌, ◌-◌, ◌<◌, ◌≤◌, ◌≡◌, ◌↔◌, List, ◌++◌, length, get_or, take}
-use Rattle.rules.specs.Lists.{◌∈◌, seg}
-use Rattle.rules.specs.Inner.Table.{Table, successors}
-use Rattle.rules.specs.Inner.Walk.{queue_of}
+use Rattle.std.specs.Prelude.{ℕ, ◌+◌, ◌<◌, ◌≤◌, ◌≡◌, ◌↔◌, List, ◌++◌, length, get_or, take}
+use Rattle.rules.specs.Lists.{◌∈◌}
 use Rattle.rules.specs.Inner.Words.{count}
 
 -- Row i of a table of k rows lies in the table.
@@ -37,40 +35,6 @@ pub record Marked (k : ℕ) (Q M : List ℕ) : Type 0 where
   pub room : length Q + count 0 M ≡ k
   pub queued : (j : ℕ) → j ∈ Q → (j < k) × (0 < get_or M j 0)
   pub ready : (j : ℕ) → 0 < get_or M j 0 → j ∈ Q
-
--- In a workspace: two tables in the first c words, then k marks and room for a queue of k.
--- The full table has k rows and stands in the first b words; the other has n rows.
-abbrev pub marks_at : ℕ → ℕ → List ℕ → List ℕ
-marks_at k c ws = seg c k ws
-
-abbrev pub full_table : ℕ → List ℕ → List ℕ
-full_table b ws = take b ws
-
-abbrev pub other_table : ℕ → ℕ → List ℕ → List ℕ
-other_table b c ws = seg b (c - b) ws
-
-pub record Pair (n k b c : ℕ) (ws : List ℕ) : Type 0 where
-  pub order : b ≤ c
-  pub full : Table k (full_table b ws)
-  pub rows : (v : ℕ) → v < n → Row n (other_table b c ws) v
-  pub items : (v j : ℕ) → j ∈ successors n (other_table b c ws) v → j < k
-
-pub record Held (k c tail : ℕ) (ws : List ℕ) : Type 0 where
-  pub within : tail ≤ k
-  pub marked : Marked k (queue_of k c tail ws) (marks_at k c ws)
-
--- a row is followed: the tables are kept
-pub record Followed (k c tail : ℕ) (row ws : List ℕ) (tail' : ℕ) (ws' : List ℕ) : Type 0 where
-  pub long : length ws' ≡ length ws
-  pub tables : take c ws' ≡ take c ws
-  pub held : Held k c tail' ws'
-  pub grown : Grown row (queue_of k c tail ws) (queue_of k c tail' ws')
-
--- a search along both tables, as it stands in a workspace
-pub record Searching (n k b c : ℕ) (w : List ℕ) (ws₀ : List ℕ) (q h tail : ℕ) (ws : List ℕ) : Type 0 where
-  pub tables : take c ws ≡ take c ws₀
-  pub held : Held k c tail ws
-  pub search : Search (successors k (full_table b ws₀)) (successors n (other_table b c ws₀)) w q h (queue_of k c tail ws)
 
 -- at the end the marks tell what is reached
 pub record Found (next out : ℕ → List ℕ) (w M : List ℕ) : Type 0 where

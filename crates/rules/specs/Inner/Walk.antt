@@ -1,8 +1,7 @@
--- How Kahn's walk stands between two of its steps, and where it is kept in a workspace. No promise cites this file.
+-- How Kahn's walk stands between two of its steps, and how a workspace is laid out for a walk. No promise cites this file.
 use Rattle.std.specs.Prelude.{ℕ, zero, suc, ◌+◌, ◌-◌, ◌<◌, ◌≤◌, ◌^◌, max, cond, ◌≡◌, ◌⊎◌, List, [], ◌∷◌, ◌++◌, length, get_or, take, set, eqb}
 use Rattle.rules.specs.Graph.{Chain}
 use Rattle.rules.specs.Lists.{◌∈◌, has, seg}
-use Rattle.rules.specs.Inner.Table.{successors}
 use Rattle.rules.specs.Inner.Words.{count, positives}
 
 -- how often the items below k that are not among done list j
@@ -42,39 +41,32 @@ deepened F s far = set F s (max (get_or F s 0) far)
 abbrev pub joined : List ℕ → List ℕ → ℕ → List ℕ
 joined Q D s = cond (eqb (get_or D s 0 - 1) 0) (Q ++ s ∷ []) Q
 
--- in a workspace: the table in the first b words, then k degrees, room for a queue of k, and k depths
-abbrev pub degrees_of : ℕ → ℕ → List ℕ → List ℕ
-degrees_of k b ws = seg b k ws
-
+-- in a workspace: tables in the first b words, then k words for the items, and room for a queue of k
 abbrev pub queue_of : ℕ → ℕ → ℕ → List ℕ → List ℕ
 queue_of k b tail ws = seg (b + k) tail ws
-
-abbrev pub depths_of : ℕ → ℕ → List ℕ → List ℕ
-depths_of k b ws = seg (b + k + k) k ws
 
 pub record Laid (k b : ℕ) (ws : List ℕ) : Type 0 where
   pub small : b < 2 ^ 31
   pub table : k < b
   pub fits : b + k + k + k ≤ length ws
 
--- a walk of the table t that stands in a workspace
-pub record Standing (t : List ℕ) (k b h tail : ℕ) (rest : List ℕ) (far : ℕ) (ws : List ℕ) : Type 0 where
-  pub table : take b ws ≡ t
+-- a walk of k items in three lists: degrees, a queue whose first `tail` words are in use, and depths
+pub record Standing (next : ℕ → List ℕ) (k h tail : ℕ) (rest : List ℕ) (far : ℕ) (D Q F : List ℕ) : Type 0 where
+  pub long : length Q ≡ k
   pub within : tail ≤ k
-  pub walk : Walk (successors k t) k h rest far (queue_of k b tail ws) (degrees_of k b ws) (depths_of k b ws)
+  pub walk : Walk next k h rest far (take tail Q) D F
 
--- what `release` asks: a listing of s is left, and where it is the last, the queue has room
-pub record Releasable (k b tail s : ℕ) (ws : List ℕ) : Type 0 where
+-- what it takes to follow a listing of s: one is left, and where it is the last, the queue has room
+pub record Releasable (k tail s : ℕ) (D : List ℕ) : Type 0 where
   pub low : s < k
-  pub some : 0 < get_or ws (b + s) 0
+  pub some : 0 < get_or D s 0
   pub within : tail ≤ k
-  pub room : get_or ws (b + s) 0 - 1 ≡ 0 → tail < k
+  pub room : get_or D s 0 - 1 ≡ 0 → tail < k
 
--- what `release` does: one listing of s is followed, and the table is kept
-pub record Released (k b tail s far : ℕ) (ws : List ℕ) (tail' : ℕ) (ws' : List ℕ) : Type 0 where
-  pub long : length ws' ≡ length ws
-  pub table : take b ws' ≡ take b ws
+-- one listing of s is followed
+pub record Released (k tail s far : ℕ) (D Q F : List ℕ) (tail' : ℕ) (D' Q' F' : List ℕ) : Type 0 where
+  pub long : length Q' ≡ length Q
   pub within : tail' ≤ k
-  pub degrees : degrees_of k b ws' ≡ lowered (degrees_of k b ws) s
-  pub depths : depths_of k b ws' ≡ deepened (depths_of k b ws) s far
-  pub queue : queue_of k b tail' ws' ≡ joined (queue_of k b tail ws) (degrees_of k b ws) s
+  pub degrees : D' ≡ lowered D s
+  pub depths : F' ≡ deepened F s far
+  pub queue : take tail' Q' ≡ joined (take tail Q) D s

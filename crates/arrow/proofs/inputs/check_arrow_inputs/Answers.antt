@@ -1,10 +1,10 @@
-use Rattle.rules.specs.Inner.Arrow.{arrow_lists_refusal, arrow_inputs_refusal}
+use Rattle.std.proofs.Common.{ap, ◌∙◌}
+use Rattle.rules.specs.Refusals.{refusal_of}
+use Rattle.rules.proofs.Facts.Refusing.{fine_none, faulty_number, handed}
+use Rattle.rules.proofs.Facts.ArrowInputs.{target_refused}
 use Rattle.arrow.proofs.inputs.check_arrow_inputs.Goals as goal
 
-pub returns-then-counts_within-maps_within : goal.returns-then-counts_within-maps_within
-unfolding arrow_inputs_refusal arrow_lists_refusal
-returns-then-counts_within-maps_within c = rw (← c.maps_within.ensures, ← c.counts_within-2.ensures, ← c.counts_within.ensures, c.if-counts_within-maps_within.true) c.check_arrow_lists.ensures
-
-pub returns-else-counts_within-maps_within : goal.returns-else-counts_within-maps_within
-unfolding arrow_inputs_refusal
-returns-else-counts_within-maps_within c = rw (← c.maps_within.ensures, ← c.counts_within-2.ensures, ← c.counts_within.ensures, c.if-counts_within-maps_within.false)
+pub returns-in_err-check_lists-2 : goal.returns-in_err-check_lists-2
+returns-in_err-check_lists-2 c =
+    ap refusal_of (handed c.from_residual-in_err-check_lists-2.ensures.1)
+    ∙ target_refused _ _ _ _ (cc) (fine_none c.check_lists.result c.check_lists.ensures c.in_ok-check_lists.was) (faulty_number c.check_lists-2.result _ c.check_lists-2.ensures c.in_err-check_lists-2.was)

@@ -1,18 +1,27 @@
-use Rattle.rules.specs.Drawing.{Drawing, Maps, drawing, maps}
-use Rattle.rules.proofs.Facts.ConvexDecides.{convex_faulty}
-use Rattle.rules.proofs.Facts.Refusing.{faulty_number}
-use Rattle.convexity.proofs.convex.is_convex_subgraph.Goals.{Start}
+use Rattle.std.proofs.Common.{ap, sym, ◌≡◌, ◌∙◌}
+use Rattle.rules.specs.Lent.{drawing_of, maps_of}
+use Rattle.rules.specs.Refusals.{refusal_of, workspace_need}
+use Rattle.rules.specs.Inner.Arrow.{arrow_inputs_refusal}
+use Rattle.rules.proofs.Facts.ConvexDecides.{convex_handed, convex_no_room, convex_decided}
+use Rattle.convexity.proofs.convex.is_convex_subgraph.Goals.{After-workspace_need-words}
 use Rattle.convexity.proofs.convex.is_convex_subgraph.Goals as goal
 
-module _ (s : Start) where
-  abbrev c₀ : Drawing
-  c₀ = drawing s.args.cw.now s.args.cx.now s.args.csl.now s.args.csv.now s.args.ctl.now s.args.ctv.now
+-- the inputs are valid
+module _ (c : After-workspace_need-words) where
+  fine : arrow_inputs_refusal (drawing_of c.args.c.now) (drawing_of c.args.d.now) (maps_of c.args.f.now) ≡ 0
+  fine = sym c.accept.ensures.refusal ∙ ap refusal_of c.in_ok-f.was
 
-  abbrev d₀ : Drawing
-  d₀ = drawing s.args.dw.now s.args.dx.now s.args.dsl.now s.args.dsv.now s.args.dtl.now s.args.dtv.now
+  words : c.workspace_need-words.result ≡ workspace_need (drawing_of c.args.d.now)
+  words = rw c.in_ok-f.ensures.same.1 at c.workspace_need-words.ensures
 
-  abbrev f₀ : Maps
-  f₀ = maps s.args.fw.now s.args.wd s.args.fx.now s.args.xd
+pub returns-in_err-f : goal.returns-in_err-f
+returns-in_err-f c = convex_handed _ _ _ _ c.accept.ensures.refusal c.in_err-f.was c.from_residual.ensures.1
 
-pub returns-in-Faulty : goal.returns-in-Faulty
-returns-in-Faulty c = convex_faulty (c₀ (goal.at.returns-in-Faulty c).Start) (d₀ (goal.at.returns-in-Faulty c).Start) (f₀ (goal.at.returns-in-Faulty c).Start) c.args.ws.now c.in-Faulty.why (faulty_number c.check_arrow_inputs.result c.in-Faulty.why c.check_arrow_inputs.ensures c.in-Faulty.is)
+pub returns-then-ws-words : goal.returns-then-ws-words
+returns-then-ws-words c = let a = (goal.at.returns-then-ws-words c).After-workspace_need-words in convex_no_room _ _ _ _ _ (words a) (fine a) c.if-ws-words.true
+
+pub returns : goal.returns
+returns c =
+    let a = (goal.at.returns c).After-workspace_need-words in
+    let same = c.in_ok-f.ensures.same in
+    convex_decided _ _ _ _ _ _ _ (words a) (fine a) c.if-ws-words.false (rw (same.0, same.1, same.2) at c.decide.ensures)

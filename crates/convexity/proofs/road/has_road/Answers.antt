@@ -1,17 +1,26 @@
-use Rattle.std.proofs.Common.{ℕ, ◌+◌, ◌-◌, ◌∙◌, arith}
-use Rattle.rules.specs.Drawing.{Drawing, drawing}
-use Rattle.rules.specs.Inner.Incidence.{items}
-use Rattle.rules.specs.Inner.Selected.{marks_from}
-use Rattle.rules.proofs.Facts.RoadDecides.{road_pair, road_decided}
-use Rattle.convexity.proofs.road.has_road.Goals.{Start}
+use Rattle.std.proofs.Common.{rules, ℕ, ◌<◌, ◌≡◌, arith, length, replicate}
+use Rattle.rules.specs.Lent.{drawing_of}
+use Rattle.rules.specs.Refusals.{workspace_need}
+use Rattle.convexity.proofs.Roads.{road_pair, road_decided, each-low}
+use Rattle.rules.specs.Lists.{◌∈◌}
+use Rattle.convexity.proofs.road.has_road.Goals.{After-walk}
 use Rattle.convexity.proofs.road.has_road.Goals as goal
 
-module _ (s : Start) where
-  abbrev d : Drawing
-  d = drawing s.args.w.now s.args.x.now s.args.sl.now s.args.sv.now s.args.tl.now s.args.tv.now
-
 pub walk-requires-clause-pair : goal.walk-requires-clause-pair
-walk-requires-clause-pair c = (road_pair c.requires.accepted c.tables.ensures, omega arith, c.requires.by_index.0)
+walk-requires-clause-pair c = (road_pair c.args.d.now.accepted c.tables.ensures, c.requires.by_index.0)
+
+-- nodes and operations have marks; that those of the nodes are looked up, `returns` says
+module _ (c : After-walk) where
+  node-low : (v : ℕ) → v ∈ c.args.f.now.w.entries.now → v < length c.walk.new.marks
+  node-low v m = omega (arith, c.requires.by_index.0 v m, c.walk.auto.marks, c.tables.auto.flags, c.split_at_mut-marks.ensures.front_len)
+
+  op-low : (v : ℕ) → v ∈ c.args.f.now.x.entries.now → v < length c.walk.new.marks
+  op-low v m = omega (arith, c.requires.by_index.1.below v m, c.walk.auto.marks, c.tables.auto.flags, c.split_at_mut-marks.ensures.front_len)
+
+pub any_marked-found-requires : goal.any_marked-found-requires
+any_marked-found-requires c = let a = (goal.at.any_marked-found-requires c).After-walk in each-low _ _ (λ v m. search (node-low a, op-low a))
 
 pub returns : goal.returns
-returns c = let p : ℕ = marks_from (d (goal.at.returns c).Start) + items (d (goal.at.returns c).Start) - marks_from (d (goal.at.returns c).Start) in road_decided c.requires.accepted c.tables.ensures c.args.fw.now c.requires.by_index.0 c.walk.new.ws c.fill.new.t p c.any_marked-found.result (c.walk.auto.ws ∙ c.tables.auto.ws ∙ c.requires.ws_len) c.walk.ensures (omega arith) c.any_marked-found.ensures c.fill.ensures
+returns c =
+    let cleared : c.fill.new.self ≡ replicate (workspace_need (drawing_of c.args.d.now.drawing)) 0 = search rules in
+    road_decided c.args.d.now.accepted c.tables.ensures c.args.f.now.w.entries.now c.requires.by_index.0 c.walk.ensures c.any_marked-found.ensures cleared

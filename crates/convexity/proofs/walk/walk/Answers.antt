@@ -1,75 +1,58 @@
-use Rattle.std.proofs.Common.{ℕ, ◌+◌, ◌<◌, ◌-◌, List, ◌≡◌, refl, ◌∙◌, arith, get_or, length, take}
-use Rattle.rules.specs.Lists.{seg}
-use Rattle.rules.specs.Inner.Search.{Pair}
-use Rattle.rules.specs.Inner.Walk.{Laid}
-use Rattle.rules.specs.Inner.Words.{back, filled}
-use Rattle.rules.proofs.Facts.Searching.{Unmarked, unmarked_long, unmarked_front, unmarked_clear, pair_same, searching_first, searching_from, searching_step, searching_last, head_low, table_row, full_same, other_same}
-use Rattle.rules.proofs.Facts.Standing.{still_laid}
-use Rattle.convexity.proofs.walk.walk.Goals.{At-loop-head, Start}
+use Rattle.std.proofs.Common.{rules, ℕ, ◌<◌, ◌≡◌, ◌∙◌, sym, arith, get_or, length, replicate}
+use Rattle.rules.specs.Inner.Search.{Row}
+use Rattle.rules.proofs.Facts.Member.{get_or-∈}
+use Rattle.convexity.proofs.Walking.{searching_first, searching_seed, searching_step, searching_last, head_low}
+use Rattle.rules.proofs.Facts.Tables.{table_row}
+use Rattle.convexity.proofs.walk.walk.Goals.{In-loop-v, In-loop-head}
 use Rattle.convexity.proofs.walk.walk.Goals as goal
 
--- the marks are cleared
-module _ (s : Start) (y : List ℕ) (f : y ≡ filled s.args.k 0 (seg s.args.c (s.args.c + s.args.k - s.args.c) s.args.ws.now)) where
-  abbrev ws₁ : List ℕ
-  ws₁ = back s.args.c (s.args.c + s.args.k - s.args.c) y s.args.ws.now
+-- the next item of w
+module _ (c : In-loop-v) where
+  abbrev v : ℕ
+  v = get_or c.args.w.now c.loop-v.v-index 0
 
-  unmarked : Unmarked s.args.k s.args.c (s.args.c + s.args.k - s.args.c) s.args.ws.now y
-  unmarked = record { laid = s.requires.laid; p_is = omega arith; filled_in = f }
+  low : v < c.args.unselected.count
+  low = c.requires.pair.1 v (get_or-∈ c.args.w.now c.loop-v.v-index c.loop-v-test.true)
 
-  laid₁ : Laid s.args.k s.args.c ws₁
-  laid₁ = still_laid s.requires.laid (unmarked_long unmarked)
+  -- v has a row in either table; that it is the row of the unselected operations which is followed, `loop-v-preserved` says
+  other_row : Row c.args.unselected.count c.args.unselected.words.now v
+  other_row = c.requires.pair.0.rows v low
 
-  pair₁ : Pair s.args.n s.args.k s.args.b s.args.c ws₁
-  pair₁ = pair_same s.requires.pair.0 (unmarked_front unmarked)
+  full-row : Row c.args.full.count c.args.full.words.now v
+  full-row = table_row c.requires.pair.0.later v (omega (arith, low, c.requires.pair.0.few))
 
--- in the loop
-module _ (c : At-loop-head) where
-  abbrev cleared : Unmarked c.args.k c.args.c (c.args.c + c.args.k - c.args.c) c.args.ws.now c.fill.new.t
-  cleared = record { laid = c.requires.laid; p_is = omega arith; filled_in = c.fill.ensures }
+-- the item at the queue's head
+module _ (c : In-loop-head) where
+  abbrev i : ℕ
+  i = get_or c.loop-head.queue c.loop-head.head 0
 
-  -- the first steps are taken
-  tables₂ : take c.args.c c.seed-tail.new.ws ≡ take c.args.c c.args.ws.now
-  tables₂ = c.seed-tail.ensures.tables ∙ unmarked_front cleared
+  i-low : i < c.args.full.count
+  i-low = omega (arith, head_low c.loop-head.invariant c.loop-head-test.true, c.loop-head.auto.queue, c.requires.room.1)
 
-  long : length c.loop-head.ws ≡ length c.args.ws.now
-  long = c.loop-head.invariant.0 ∙ c.seed-tail.auto.ws ∙ unmarked_long cleared
+pub loop-v-init : goal.loop-v-init
+loop-v-init c =
+    let clear : c.fill.new.self ≡ replicate (length c.args.marks.now) 0 = search rules in
+    searching_first _ _ c.args.w.now clear (c.requires.room.0 ∙ sym c.requires.room.1)
 
-  laid : Laid c.args.k c.args.c c.loop-head.ws
-  laid = still_laid c.requires.laid long
+pub leaving-row-requires : goal.leaving-row-requires
+leaving-row-requires c = let a = (goal.at.leaving-row-requires c).In-loop-v in search (other_row a, full-row a)
 
-  pair : Pair c.args.n c.args.k c.args.b c.args.c c.loop-head.ws
-  pair = pair_same c.requires.pair.0 (c.loop-head.invariant.1.tables ∙ tables₂)
+pub overflow_add-v : goal.overflow_add-v
+overflow_add-v c = omega (arith, low (goal.at.overflow_add-v c).In-loop-v, c.requires.pair.0.few, c.requires.room.2)
 
-  low : c.loop-head.head < c.loop-head.tail → get_or c.loop-head.ws (c.args.c + c.args.k + c.loop-head.head) 0 < c.args.k
-  low = head_low pair.order laid c.loop-head.invariant.1
+pub loop-v-preserved : goal.loop-v-preserved
+loop-v-preserved c = searching_seed c.loop-v.invariant c.loop-v-test.true (rw c.leaving-row.ensures at c.follow-tail.ensures)
 
-pub seed-tail-requires-clause-pair : goal.seed-tail-requires-clause-pair
-seed-tail-requires-clause-pair c = (pair₁ (goal.at.seed-tail-requires-clause-pair c).Start c.fill.new.t c.fill.ensures, c.requires.pair.1, c.requires.pair.2)
+pub leaving-row-requires-in-loop-head : goal.leaving-row-requires-in-loop-head
+leaving-row-requires-in-loop-head c =
+    let a = (goal.at.leaving-row-requires-in-loop-head c).In-loop-head in
+    table_row c.requires.pair.0.later _ (omega (arith, i-low a, c.loop-head-test.true, c.loop-head.invariant.held.within, c.loop-head.auto.queue, c.requires.room.1))
 
-pub seed-tail-requires-clause-searching : goal.seed-tail-requires-clause-searching
-seed-tail-requires-clause-searching c =
-    let s = (goal.at.seed-tail-requires-clause-searching c).Start in
-    searching_first c.args.w.now (ws₁ s c.fill.new.t c.fill.ensures) (laid₁ s c.fill.new.t c.fill.ensures) refl (unmarked_clear (unmarked s c.fill.new.t c.fill.ensures))
-
-pub loop-head-init : goal.loop-head-init
-loop-head-init c = (refl, searching_from c.seed-tail.new.ws c.requires.pair.0.order c.seed-tail.ensures.tables c.seed-tail.ensures)
-
-pub follow-tail-requires-clause-b_le_c : goal.follow-tail-requires-clause-b_le_c
-follow-tail-requires-clause-b_le_c c = ((pair (goal.at.follow-tail-requires-clause-b_le_c c).At-loop-head).order, omega (arith, low (goal.at.follow-tail-requires-clause-b_le_c c).At-loop-head c.loop-head-test.true, c.loop-head.invariant.1.held.within), c.loop-head.invariant.1.held)
-
-pub follow-tail-requires-clause-row : goal.follow-tail-requires-clause-row
-follow-tail-requires-clause-row c = table_row (pair (goal.at.follow-tail-requires-clause-row c).At-loop-head).full _ (omega (arith, low (goal.at.follow-tail-requires-clause-row c).At-loop-head c.loop-head-test.true, c.loop-head.invariant.1.held.within))
-
-pub follow-tail-requires-clause-by_index : goal.follow-tail-requires-clause-by_index
-follow-tail-requires-clause-by_index c = λ j m. (pair (goal.at.follow-tail-requires-clause-by_index c).At-loop-head).full.items _ j m
+pub overflow_add-i : goal.overflow_add-i
+overflow_add-i c = omega (arith, i-low (goal.at.overflow_add-i c).In-loop-head, c.requires.room.2)
 
 pub loop-head-preserved : goal.loop-head-preserved
-loop-head-preserved c =
-    let a = (goal.at.loop-head-preserved c).At-loop-head in
-    (c.follow-tail.ensures.long ∙ c.loop-head.invariant.0, searching_step (pair a).order (laid a) c.loop-head.invariant.1 c.loop-head-test.true c.follow-tail.ensures)
+loop-head-preserved c = searching_step c.loop-head.invariant c.loop-head-test.true (rw c.leaving-row-in-loop-head.ensures at c.follow-tail-in-loop-head.ensures)
 
 pub returns : goal.returns
-returns c =
-    let a = (goal.at.returns c).At-loop-head in
-    rw (full_same c.args.ws.now c.seed-tail.new.ws c.requires.pair.0.order (tables₂ a), other_same c.args.ws.now c.seed-tail.new.ws c.requires.pair.0.order (tables₂ a))
-    at (searching_last (laid a) c.loop-head.invariant.1 c.loop-head-test.false)
+returns c = searching_last c.loop-head.invariant (omega (arith, c.loop-head-test.false))

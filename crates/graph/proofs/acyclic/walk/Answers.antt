@@ -1,28 +1,25 @@
-use Rattle.std.proofs.Common.{ℕ, ◌≡◌, ◌∙◌, List, arith, length, take, length-take-le}
-use Rattle.rules.specs.Drawing.{Drawing, drawing}
-use Rattle.rules.specs.Inner.IncidenceTable.{table_length}
-use Rattle.rules.proofs.Facts.Acyclic.{walk_tells}
-use Rattle.graph.proofs.acyclic.walk.Goals.{After-incidence, Start}
+use Rattle.std.proofs.Common.{ℕ, ◌+◌, ◌≡◌, ◌∙◌, arith, length, drop, length-take-le}
+use Rattle.rules.proofs.Facts.Acyclic.{parts_tell}
+use Rattle.graph.proofs.acyclic.walk.Goals.{After-split_at_mut-queue}
 use Rattle.graph.proofs.acyclic.walk.Goals as goal
 
-module _ (s : Start) where
-  abbrev d : Drawing
-  d = drawing s.args.w.now s.args.x.now s.args.sl.now s.args.sv.now s.args.tl.now s.args.tv.now
+-- the workspace is shared out
+module _ (c : After-split_at_mut-queue) where
+  abbrev k : ℕ
+  k = length c.args.d.now.drawing.nodes.now + length c.args.d.now.drawing.ops.now
 
--- the table stands
-module _ (c : After-incidence) where
-  abbrev d-2 : Drawing
-  d-2 = drawing c.args.w.now c.args.x.now c.args.sl.now c.args.sv.now c.args.tl.now c.args.tv.now
+  table_long : length c.split_at_mut-table.result.0.now ≡ k + 1 + length c.args.d.now.drawing.sources.values.now + length c.args.d.now.drawing.targets.values.now
+  table_long = c.split_at_mut-table.ensures.front_len
 
-  front-2 : length (take (table_length d-2) c.args.ws.now) ≡ table_length d-2
-  front-2 = length-take-le (table_length d-2) c.args.ws.now (omega (arith, c.requires.ws_len))
+  degrees_long : length c.split_at_mut-degrees.result.0.now ≡ k
+  degrees_long = c.split_at_mut-degrees.ensures.front_len
 
-  abbrev t : List ℕ
-  t = c.incidence.new.t
-
-  t_long : length t ≡ table_length d-2
-  t_long = c.incidence.auto.t ∙ front-2
+  queue_long : length c.split_at_mut-queue.result.0.now ≡ k
+  queue_long = c.split_at_mut-queue.ensures.front_len
 
 pub returns : goal.returns
 returns c =
-    walk_tells (d (goal.at.returns c).Start) c.requires.accepted c.args.ws.now (t (goal.at.returns c).After-incidence) c.requires.ws_len (t_long (goal.at.returns c).After-incidence) c.incidence.ensures c.kahn.result c.kahn.new.ws c.kahn.auto.ws c.kahn.ensures
+    let s = (goal.at.returns c).After-split_at_mut-queue in
+    parts_tell c.kahn.new.queue (drop (k s) c.split_at_mut-queue.result.1.now) c.args.d.now.accepted c.incidence.ensures
+    (c.incidence.auto.t ∙ table_long s) (c.kahn.auto.degrees ∙ degrees_long s) (c.kahn.auto.queue ∙ queue_long s) (c.kahn.auto.depths ∙ length-take-le (k s) c.split_at_mut-queue.result.1.now (omega (arith, c.requires.ws_len)))
+    (rw (degrees_long s) at c.kahn.ensures)

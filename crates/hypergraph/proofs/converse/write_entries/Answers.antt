@@ -1,19 +1,18 @@
-use Rattle.std.proofs.Common.{ℕ, ◌+◌, ◌≡◌, ◌∙◌, arith, length, drop, length-take-le}
+use Rattle.std.proofs.Common.{rules, ℕ, ◌+◌, ◌≡◌, ◌∙◌, arith, length, drop, length-take-le}
 use Rattle.rules.proofs.Facts.ConverseTable.{entries_put}
-use Rattle.rules.proofs.Facts.RowsCalls.{front_cleared}
 use Rattle.hypergraph.proofs.converse.write_entries.Goals.{After-converse_counted}
 use Rattle.hypergraph.proofs.converse.write_entries.Goals as goal
 
 -- the table stands in front of the workspace
 module _ (c : After-converse_counted) where
   abbrev table : ℕ
-  table = c.args.n + 1 + length c.args.vs.now
+  table = length c.args.listed.now + 1 + length c.args.lists.now.values.now
 
   long : length c.converse_counted.new.t ≡ table
-  long = c.converse_counted.auto.t ∙ length-take-le table c.args.ws.now (omega (arith, c.requires.vs_bound))
+  long = c.converse_counted.auto.t ∙ length-take-le table c.args.ws.now (omega (arith, c.requires.room))
 
 pub returns : goal.returns
 returns c = (
-  entries_put c.args.n c.args.ls.now c.args.vs.now c.converse_counted.new.t (drop (table (goal.at.returns c).After-converse_counted) c.args.ws.now) c.copy.new.t c.args.vals.now c.converse_counted.ensures (long (goal.at.returns c).After-converse_counted) c.copy.ensures,
-  c.fill.ensures ∙ front_cleared (table (goal.at.returns c).After-converse_counted) c.args.words c.converse_counted.new.t c.args.ws.now (long (goal.at.returns c).After-converse_counted) c.requires.vs_bound.0,
+  entries_put (length c.args.listed.now) c.args.lists.now.lengths.now c.args.lists.now.values.now c.converse_counted.new.t (drop (table (goal.at.returns c).After-converse_counted) c.args.ws.now) c.copy_from_slice.new.self c.args.vals.now c.converse_counted.ensures (long (goal.at.returns c).After-converse_counted) c.copy_from_slice.ensures.after,
+  search rules,
 )

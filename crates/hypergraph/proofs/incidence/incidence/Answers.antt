@@ -1,33 +1,30 @@
-use Rattle.std.proofs.Common.{ℕ, ◌-◌, ◌+◌, ◌∙◌, arith, length}
-use Rattle.rules.specs.Drawing.{Drawing, drawing, Accepted}
+use Rattle.std.proofs.Common.{◌+◌, ◌≡◌, ◌∙◌, arith, length, length-take-le}
+use Rattle.rules.specs.Lent.{drawing_of}
 use Rattle.rules.proofs.Facts.Incident.{Rows, incident}
-use Rattle.hypergraph.proofs.incidence.incidence.Goals.{Start}
+use Rattle.hypergraph.proofs.incidence.incidence.Goals.{After-place}
 use Rattle.hypergraph.proofs.incidence.incidence.Goals as goal
 
-module _ (s : Start) where
-  abbrev d : Drawing
-  d = drawing s.args.w.now s.args.x.now s.args.sl.now s.args.sv.now s.args.tl.now s.args.tv.now
+-- the offsets are written, and the owners placed
+module _ (c : After-place) where
+  long : length c.offsets.new.t ≡ length c.args.d.now.drawing.nodes.now + length c.args.d.now.drawing.ops.now + 1
+  long = c.offsets.auto.t ∙ omega (arith, c.split_at_mut-first.ensures.front_len, c.requires)
 
-  accepted : Accepted d
-  accepted = s.requires.accepted
+  cursors_long : length c.place.new.cursors ≡ length c.args.d.now.drawing.nodes.now
+  cursors_long = c.place.auto.cursors ∙ length-take-le (length c.args.d.now.drawing.nodes.now) c.offsets.new.t (omega (arith, long))
 
-  -- where the targets start, and how many words their part has
-  abbrev targets : ℕ
-  targets = length s.args.w.now + length s.args.x.now + 1 + length s.args.sv.now
-
-  abbrev q : ℕ
-  q = targets + length s.args.tv.now - targets
+  rows_long : length c.place.new.rows ≡ length c.args.d.now.drawing.sources.values.now
+  rows_long = c.place.auto.rows ∙ omega (arith, c.split_at_mut-rows.ensures.front_len, c.split_at_mut-first.ensures.back_len, c.requires)
 
 pub returns : goal.returns
 returns c =
-    let rows : Rows (d (goal.at.returns c).Start) (q (goal.at.returns c).Start) c.offsets.new.t c.place.new.t c.copy.new.t =
+    let rows : Rows (drawing_of c.args.d.now.drawing) c.offsets.new.t c.place.new.cursors c.place.new.rows c.copy_from_slice.new.self =
     record {
-      accepted = c.requires.accepted;
-      long = c.offsets.auto.t ∙ c.requires.t_len;
-      same = c.place.auto.t;
+      accepted = c.args.d.now.accepted;
+      long = long (goal.at.returns c).After-place;
+      same = cursors_long (goal.at.returns c).After-place;
+      room = rows_long (goal.at.returns c).After-place;
       offsets = c.offsets.ensures;
       placing = c.place.ensures;
-      q_is = omega arith;
-      copied = c.copy.ensures;
+      copied = c.copy_from_slice.ensures.after;
     } in
     incident rows

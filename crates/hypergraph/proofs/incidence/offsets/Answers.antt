@@ -1,30 +1,24 @@
-use Rattle.std.proofs.Common.{ℕ, ◌-◌, ◌+◌, List, arith, length}
-use Rattle.rules.proofs.Facts.Incident.{Lengths, sum_ops, offsets_set}
-use Rattle.rules.proofs.Facts.Placing.{sum-all}
-use Rattle.hypergraph.proofs.incidence.offsets.Goals.{After-copy}
+use Rattle.std.proofs.Common.{ℕ, ◌+◌, ◌≡◌, ◌∙◌, arith, length, replicate, ap}
+use Rattle.rules.proofs.Facts.Incident.{Lengths, sum_lengths, offsets_set}
+use Rattle.hypergraph.proofs.incidence.offsets.Goals.{After-copy_from_slice}
 use Rattle.hypergraph.proofs.incidence.offsets.Goals as goal
 
--- the words of the nodes are cleared, and the lengths copied behind them
-module _ (c : After-copy) where
-  abbrev n : ℕ
-  n = c.args.n
+-- the listings are counted, and the lengths copied behind them
+module _ (c : After-copy_from_slice) where
+  long : length c.split_at_mut-nodes.result.0.now ≡ c.args.n + 1
+  long = omega (arith, c.split_at_mut-nodes.ensures.front_len)
 
-  abbrev tl : List ℕ
-  tl = c.args.tl.now
-
-  lengths : Lengths n (n + 1 + length tl - (n + 1)) c.args.sv.now tl c.args.t.now c.fill.new.t c.copy.new.t
+  lengths : Lengths c.args.n c.args.sv.now c.args.tl.now c.fill.new.self c.count_values.new.t c.copy_from_slice.new.self
   lengths =
       record {
-        fits = c.requires.few.room;
         low = c.requires.by_index;
-        p_is = omega arith;
-        cleared = c.fill.ensures;
-        copied = c.copy.ensures;
+        cleared = c.fill.ensures.after (λ y e. e) ∙ ap (λ (k : ℕ). replicate k 0) long;
+        counted = c.count_values.ensures;
+        copied = c.copy_from_slice.ensures.after;
       }
 
-pub running-requires-clause-t_bound : goal.running-requires-clause-t_bound
-running-requires-clause-t_bound c = omega (arith, sum_ops (lengths (goal.at.running-requires-clause-t_bound c).After-copy) c.count_values.new.t c.count_values.ensures (length (tl (goal.at.running-requires-clause-t_bound c).After-copy)) (omega arith), sum-all (tl (goal.at.running-requires-clause-t_bound c).After-copy), c.requires.few.sums)
+pub running-requires : goal.running-requires
+running-requires c = record { t_bound = omega (arith, sum_lengths (lengths (goal.at.running-requires c).After-copy_from_slice), c.requires.few.sums) }
 
 pub returns : goal.returns
-returns c =
-    offsets_set (lengths (goal.at.returns c).After-copy) c.count_values.new.t c.count_values.ensures c.running.new.t c.running.ensures
+returns c = offsets_set (lengths (goal.at.returns c).After-copy_from_slice) c.running.new.t c.running.ensures

@@ -1,19 +1,22 @@
-use Rattle.std.proofs.Common.{sym, ◌∙◌, arith, length-set}
-use Rattle.text.specs.Facts.Numbers.{finish_more, finish_nothing, finish_bad, finish_end, read_is}
+use Rattle.std.proofs.Common.{sym, ◌∙◌, arith}
+use Rattle.std.proofs.lemmas.Result.{err_from_is_err_and}
+use Rattle.text.proofs.Facts.Numbers.{finish_more, finish_fault, finish_end, read_end, read_stored, same_again}
 use Rattle.text.proofs.reader.read_numbers.Goals as goal
 
-pub returns-in-Nothing : goal.returns-in-Nothing
-returns-in-Nothing c =
-    read_is _ _ _ _ (sym c.loop-i.invariant.2 ∙ finish_nothing c.args.text.now c.args.count c.loop-i.i c.loop-i.p c.loop-i.out c.loop-i-test.true (cc))
+pub returns-in_err-n : goal.returns-in_err-n
+returns-in_err-n c =
+    let l = c.loop-x in
+    let p = err_from_is_err_and c.from_residual.result c.from_residual.ensures.1 in
+    let e = sym l.invariant ∙ finish_fault c.args.text.now _ l.x-index l.at l.out (omega arith) _ (sym c.read_next.ensures ∙ c.in_err-n.was) in
+    rw (p.1, p.2, same_again l.out l.x-index (omega arith)) record { end = read_end _ _ _ _ e; stored = read_stored _ _ _ _ e }
 
-pub returns-in-Bad : goal.returns-in-Bad
-returns-in-Bad c =
-    read_is _ _ _ _ (sym c.loop-i.invariant.2 ∙ finish_bad c.args.text.now c.args.count c.loop-i.i c.loop-i.p c.loop-i.out c.loop-i-test.true (cc))
-
-pub loop-i-preserved : goal.loop-i-preserved
-loop-i-preserved c =
-    (omega arith, simp length-set c.loop-i.invariant.1, sym (finish_more c.args.text.now c.args.count c.loop-i.i c.loop-i.p c.loop-i.out c.loop-i-test.true _ _ (cc)) ∙ c.loop-i.invariant.2)
+pub loop-x-preserved : goal.loop-x-preserved
+loop-x-preserved c =
+    let l = c.loop-x in
+    sym (finish_more c.args.text.now _ l.x-index l.at l.out (omega arith) _ _ (sym c.read_next.ensures ∙ c.in_ok-n.was)) ∙ l.invariant
 
 pub returns : goal.returns
 returns c =
-    read_is _ _ _ _ (sym c.loop-i.invariant.2 ∙ finish_end c.args.text.now c.args.count c.loop-i.i c.loop-i.p c.loop-i.out (omega arith))
+    let l = c.loop-x in
+    let e = sym l.invariant ∙ finish_end c.args.text.now _ l.x-index l.at l.out (omega arith) in
+    record { end = read_end _ _ _ _ e; stored = read_stored _ _ _ _ e }

@@ -1,10 +1,7 @@
-use Rattle.std.proofs.Common.{◌≤◌, ◌-◌, ◌≡◌, length}
+use Rattle.std.proofs.Common.{◌-◌, ◌≡◌, length}
 use Rattle.rules.specs.Text.{numbers_at}
-use Rattle.text.specs.Facts.Numbers.{finish}
+use Rattle.text.proofs.Facts.Numbers.{finish}
 use Rattle.text.proofs.reader.read_numbers.Given as goal
 
-abbrev pub invariant-loop-i : goal.invariant-loop-i
-invariant-loop-i l = (l.i ≤ l.count) × (length l.out ≡ length l.initial.out) × (finish l.out l.i (numbers_at (l.count - l.i) l.text l.p) ≡ finish l.initial.out 0 (numbers_at l.count l.text l.at))
-
-abbrev pub decreases-loop-i : goal.decreases-loop-i
-decreases-loop-i l = l.count - l.i
+abbrev pub invariant-loop-x : goal.invariant-loop-x
+invariant-loop-x l = finish l.out l.x-index (numbers_at (length l.initial.out - l.x-index) l.text l.at) ≡ finish l.initial.out 0 (numbers_at (length l.initial.out) l.text l.initial.at)

@@ -1,6 +1,0 @@
-pub mod Sets
-pub mod Numbers
-pub mod Sections
-pub mod Parts
-pub mod Puts
-pub mod Answers
