@@ -19,7 +19,7 @@ module _ (c : In-loop-i) where
   next = rw (up_from_more i k c.loop-i-test.true) at c.loop-i.invariant
 
 pub count_values-requires-clause-by_index : goal.count_values-requires-clause-by_index
-count_values-requires-clause-by_index c = λ v m. omega (arith, items_low c.requires.table.0 (length c.args.degrees.now + 1) (length c.args.table.now - (length c.args.degrees.now + 1)) (omega arith) v m, c.fill.ensures.len)
+count_values-requires-clause-by_index c = λ v m. omega (arith, items_low c.requires.table.0 _ _ (omega arith) v m, c.fill.ensures.len)
 
 pub loop-i-init : goal.loop-i-init
 loop-i-init c =
