@@ -77,7 +77,7 @@ fn follow(
     for &s in listed {
         let at = s as usize;
         left = array::known(degrees, at, last, left) - 1;
-        depth = array::known(depths, at, last, depth).max(far);
+        depth = array::larger(array::known(depths, at, last, depth), far);
         len = release(degrees, queue, depths, len, s, left, depth);
         last = at;
     }

@@ -78,8 +78,8 @@ pub loop-s-preserved : goal.loop-s-preserved
 loop-s-preserved c =
     let o = (goal.at.loop-s-preserved c).In-loop-s in
     let e = c.release-len.ensures in
-    let f : c.max-depth.result ≡ max (get_or c.loop-s.depths (x o) 0) (far o) = rw (← c.known.ensures) c.max-depth.ensures in
-    (omega (arith, x_low o, c.release-len.auto.degrees), rw e.0 (sym (get_or-set_same c.loop-s.degrees (x o) (c.known-left.result - 1) 0 (x_low o))), rw e.2 (sym (get_or-set_same c.loop-s.depths (x o) c.max-depth.result 0 (x_low_depth o))), rw (e.0, e.1, e.2, e.3, f, c.known-left.ensures) (follow_stands (next o)))
+    let f : c.larger-depth.result ≡ max (get_or c.loop-s.depths (x o) 0) (far o) = rw (← c.known.ensures) c.larger-depth.ensures in
+    (omega (arith, x_low o, c.release-len.auto.degrees), rw e.0 (sym (get_or-set_same c.loop-s.degrees (x o) (c.known-left.result - 1) 0 (x_low o))), rw e.2 (sym (get_or-set_same c.loop-s.depths (x o) c.larger-depth.result 0 (x_low_depth o))), rw (e.0, e.1, e.2, e.3, f, c.known-left.ensures) (follow_stands (next o)))
 
 pub returns : goal.returns
 returns c = stands_still (rw (drop_of_length-le c.row-listed.result.now {i = c.loop-s.s-index} (omega arith)) at c.loop-s.invariant.3)
