@@ -2,20 +2,23 @@
 // and of the maps f between them.
 ghost use Rattle.std.specs.Prelude.{◌≡◌, IfOk};
 ghost use Rattle.rules.specs.Lent.{drawing_of, maps_of};
-ghost use Rattle.rules.specs.Drawing.{AcceptedMaps};
+ghost use Rattle.rules.specs.Drawing.{Accepted, AcceptedMaps};
 ghost use Rattle.rules.specs.Refusals.{refusal_of};
 ghost use Rattle.rules.specs.Inner.Arrow.{arrow_inputs_refusal};
 
 use hypergraph::check::{check_lists, counts_within, entries_below, maps_within};
-use rules::{Checked, Drawing, Maps, Refusal};
+use rules::{Drawing, Maps, Refusal};
 
-// Maps from a drawing into another, all of which have passed the checks.
+// Maps from a drawing into another, all of which have passed the checks. It holds them where they stand: by value it would be copied by
+// `memcpy`, which the archive for C needs from outside for nothing else.
 #[derive(Clone, Copy)]
 pub struct Arrow<'a> {
-    pub source: Checked<'a>,
-    pub target: Checked<'a>,
-    pub maps: Maps<'a>,
-    pub ghost accepted: { AcceptedMaps (maps_of maps) },
+    pub source: &'a Drawing<'a>,
+    pub target: &'a Drawing<'a>,
+    pub maps: &'a Maps<'a>,
+    pub ghost source_accepted: { Accepted (drawing_of source.now) },
+    pub ghost target_accepted: { Accepted (drawing_of target.now) },
+    pub ghost accepted: { AcceptedMaps (maps_of maps.now) },
 }
 
 // 1 over everything, then 2 and 3 of the source and of the target, then 4 of the maps.
@@ -35,14 +38,18 @@ pub fn check_arrow_inputs(c: &Drawing, d: &Drawing, f: &Maps) -> Result<(), Refu
 }
 
 // The same, and hands what is valid back as an arrow.
-pub fn accept<'a>(c: &Drawing<'a>, d: &Drawing<'a>, f: &Maps<'a>) -> Result<Arrow<'a>, Refusal>
+pub fn accept<'a>(
+    c: &'a Drawing<'a>,
+    d: &'a Drawing<'a>,
+    f: &'a Maps<'a>,
+) -> Result<Arrow<'a>, Refusal>
     ensures refusal { refusal_of result ≡ arrow_inputs_refusal (drawing_of c.now) (drawing_of d.now) (maps_of f.now) }
-    ensures same { IfOk result (λ a. (a.source.drawing ≡ c.now) × (a.target.drawing ≡ d.now) × (a.maps ≡ f.now)) }
+    ensures same { IfOk result (λ a. (a.source.now ≡ c.now) × (a.target.now ≡ d.now) × (a.maps.now ≡ f.now)) }
 {
     check_arrow_inputs(c, d, f)?;
     Ok(Arrow {
-        source: Checked { drawing: *c },
-        target: Checked { drawing: *d },
-        maps: *f,
+        source: c,
+        target: d,
+        maps: f,
     })
 }

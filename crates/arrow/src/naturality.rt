@@ -61,11 +61,11 @@ fn type_matches(map: &Map, source: &[u32], target: &[u32]) -> bool
 // 5 and 6: the types of the maps do not match; 7 and 8: labels are not carried; 9 and 10: lists are not.
 #[tactic(auto, unfolding(rules::specs::Calls::natural_refusal))]
 pub fn naturality(f: &Arrow) -> Result<(), Refusal>
-    ensures { refusal_of result ≡ natural_refusal (drawing_of f.now.source.drawing) (drawing_of f.now.target.drawing) (maps_of f.now.maps) }
+    ensures { refusal_of result ≡ natural_refusal (drawing_of f.now.source.now) (drawing_of f.now.target.now) (maps_of f.now.maps.now) }
 {
-    let c = &f.source.drawing;
-    let d = &f.target.drawing;
-    let f = &f.maps;
+    let c = f.source;
+    let d = f.target;
+    let f = f.maps;
     if !type_matches(&f.w, c.nodes, d.nodes) {
         return Err(Refusal::TypeMismatchW);
     }

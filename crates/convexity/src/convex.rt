@@ -31,14 +31,15 @@ fn decide_natural(d: &Checked, f: &Maps, ws: &mut [u32]) -> bool
 
 // Whether the group is convex; no where validation gives 5 to 10. In W words of workspace, which it clears.
 fn decide(f: &Arrow, ws: &mut [u32]) -> bool
-    requires ws_len { length ws.old ≡ workspace_need (drawing_of f.now.target.drawing) }
-    ensures { Decides (Convex (drawing_of f.now.source.drawing) (drawing_of f.now.target.drawing) (maps_of f.now.maps)) (workspace_need (drawing_of f.now.target.drawing)) ws.new result }
+    requires ws_len { length ws.old ≡ workspace_need (drawing_of f.now.target.now) }
+    ensures { Decides (Convex (drawing_of f.now.source.now) (drawing_of f.now.target.now) (maps_of f.now.maps.now)) (workspace_need (drawing_of f.now.target.now)) ws.new result }
 {
     if naturality(f).is_err() {
         ws.fill(0);
         return false;
     }
-    decide_natural(&f.target, &f.maps, ws)
+    let target = Checked { drawing: *f.target };
+    decide_natural(&target, f.maps, ws)
 }
 
 // Whether the maps are natural and injective and no path that begins with an unselected operation leads from a selected node to one.
@@ -52,7 +53,8 @@ pub fn is_convex_subgraph(
     ensures { IsConvexSubgraph (drawing_of c.now) (drawing_of d.now) (maps_of f.now) ws.old ws.new result }
 {
     let f = accept(c, d, f)?;
-    let words = f.target.workspace_need();
+    let target = Checked { drawing: *f.target };
+    let words = target.workspace_need();
     if ws.len() < words {
         return Err(Refusal::ShortRoom);
     }

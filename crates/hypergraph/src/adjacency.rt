@@ -31,7 +31,8 @@ fn node_entries(d: &Checked) -> u32
 }
 
 // How many entries the operation adjacency has: how often the nodes of all targets are listed as sources, added up. A refusal leaves the
-// lent memory untouched, so the counts are local.
+// lent memory untouched, so the counts are local. Not inlined: their room would be taken from the stack for the nodes too.
+#[inline(never)]
 fn operation_entries(d: &Checked) -> u32
     ensures { result ≡ length (row_entries (op_next (drawing_of d.now.drawing)) (op_count (drawing_of d.now.drawing))) }
 {

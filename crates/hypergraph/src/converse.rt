@@ -23,7 +23,7 @@ fn write_entries(ws: &mut [u32], listed: &[u32], lists: &IndexedCoproduct, vals:
     let size = lists.values.len();
     let table = items + size;
     indexed_coproduct::converse::converse_counted(&mut ws[..table], listed, lists);
-    vals[..size].copy_from_slice(&ws[items..table]);
+    array::copy(&mut vals[..size], &ws[items..table]);
     ws.fill(0);
 }
 

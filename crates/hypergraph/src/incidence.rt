@@ -38,7 +38,7 @@ fn offsets(t: &mut [u32], n: usize, sv: &[u32], tl: &[u32])
     let (nodes, ops) = t.split_at_mut(n + 1);
     nodes.fill(0);
     array::count_values(nodes, sv);
-    ops.copy_from_slice(tl);
+    array::copy(ops, tl);
     array::running(t);
 }
 
@@ -53,5 +53,5 @@ pub fn incidence(t: &mut [u32], d: &Checked)
     let (rows, targets) = items.split_at_mut(d.sources.values.len());
     offsets(first, n, d.sources.values, d.targets.lengths);
     indexed_coproduct::place(&mut first[..n], rows, n, &d.sources);
-    targets.copy_from_slice(d.targets.values);
+    array::copy(targets, d.targets.values);
 }

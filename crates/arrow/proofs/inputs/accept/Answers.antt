@@ -10,11 +10,8 @@ module _ (c : In_ok-check_arrow_inputs) where
   accepted : Accepted (drawing_of c.args.c.now) × Accepted (drawing_of c.args.d.now) × AcceptedMaps (maps_of c.args.f.now)
   accepted = inputs_accepted _ _ _ (fine_none c.check_arrow_inputs.result c.check_arrow_inputs.ensures c.in_ok-check_arrow_inputs.was)
 
+-- Each is found among the three, so that a drawing in the other's place is refused where the promise says which is which.
 pub invariant_of-result : goal.invariant_of-result
-invariant_of-result c = record { accepted = (accepted (goal.at.invariant_of-result c).In_ok-check_arrow_inputs).0 }
-
-pub invariant_of-result-2 : goal.invariant_of-result-2
-invariant_of-result-2 c = record { accepted = (accepted (goal.at.invariant_of-result-2 c).In_ok-check_arrow_inputs).1 }
-
-pub invariant_of-result-3 : goal.invariant_of-result-3
-invariant_of-result-3 c = record { accepted = (accepted (goal.at.invariant_of-result-3 c).In_ok-check_arrow_inputs).2 }
+invariant_of-result c =
+    let a = accepted (goal.at.invariant_of-result c).In_ok-check_arrow_inputs in
+    record { source_accepted = search (a.0, a.1); target_accepted = search (a.0, a.1); accepted = a.2 }

@@ -10,15 +10,15 @@ use Rattle.convexity.proofs.convex.decide.Goals as goal
 
 -- the maps are natural
 module _ (c : Else-is_err) where
-  fine : natural_refusal (drawing_of c.args.f.now.source.drawing) (drawing_of c.args.f.now.target.drawing) (maps_of c.args.f.now.maps) ≡ 0
+  fine : natural_refusal (drawing_of c.args.f.now.source.now) (drawing_of c.args.f.now.target.now) (maps_of c.args.f.now.maps.now) ≡ 0
   fine = refused_none c.naturality.result c.naturality.ensures (search rules)
 
-  natural : Natural (drawing_of c.args.f.now.source.drawing) (drawing_of c.args.f.now.target.drawing) (maps_of c.args.f.now.maps)
+  natural : Natural (drawing_of c.args.f.now.source.now) (drawing_of c.args.f.now.target.now) (maps_of c.args.f.now.maps.now)
   natural = (natural_iff _ _ _).0 fine
 
 pub returns-then-is_err : goal.returns-then-is_err
 returns-then-is_err c =
-    let cleared : c.fill.new.self ≡ replicate (workspace_need (drawing_of c.args.f.now.target.drawing)) 0 = search rules in
+    let cleared : c.fill.new.self ≡ replicate (workspace_need (drawing_of c.args.f.now.target.now)) 0 = search rules in
     unnatural_no _ _ _ (refused_some c.naturality.result c.naturality.ensures (search rules)) cleared
 
 pub decide_natural-requires-clause-by_index : goal.decide_natural-requires-clause-by_index

@@ -13,6 +13,6 @@ module _ (c : After-converse_counted) where
 
 pub returns : goal.returns
 returns c = (
-  entries_put (length c.args.listed.now) c.args.lists.now.lengths.now c.args.lists.now.values.now c.converse_counted.new.t (drop (table (goal.at.returns c).After-converse_counted) c.args.ws.now) c.copy_from_slice.new.self c.args.vals.now c.converse_counted.ensures (long (goal.at.returns c).After-converse_counted) c.copy_from_slice.ensures.after,
+  entries_put (length c.args.listed.now) c.args.lists.now.lengths.now c.args.lists.now.values.now c.converse_counted.new.t (drop (table (goal.at.returns c).After-converse_counted) c.args.ws.now) c.copy.new.t c.args.vals.now c.converse_counted.ensures (long (goal.at.returns c).After-converse_counted) c.copy.ensures,
   search rules,
 )

@@ -17,7 +17,7 @@ module _ (c : After-place) where
 
 pub returns : goal.returns
 returns c =
-    let rows : Rows (drawing_of c.args.d.now.drawing) c.offsets.new.t c.place.new.cursors c.place.new.rows c.copy_from_slice.new.self =
+    let rows : Rows (drawing_of c.args.d.now.drawing) c.offsets.new.t c.place.new.cursors c.place.new.rows c.copy.new.t =
     record {
       accepted = c.args.d.now.accepted;
       long = long (goal.at.returns c).After-place;
@@ -25,6 +25,6 @@ returns c =
       room = rows_long (goal.at.returns c).After-place;
       offsets = c.offsets.ensures;
       placing = c.place.ensures;
-      copied = c.copy_from_slice.ensures.after;
+      copied = c.copy.ensures;
     } in
     incident rows

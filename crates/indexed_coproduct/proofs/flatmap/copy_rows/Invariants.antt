@@ -3,5 +3,5 @@ use Rattle.rules.specs.Inner.Rows.{Put, row_of}
 use Rattle.rules.specs.Lists.{concat}
 use Rattle.indexed_coproduct.proofs.flatmap.copy_rows.Given as goal
 
-abbrev pub invariant-loop-j : goal.invariant-loop-j
-invariant-loop-j l = Put l.at (concat (map (row_of l.table.offsets.now l.table.entries.now) (take l.j-index l.list))) l.initial.vals l.vals l.to
+abbrev pub invariant-loop-p : goal.invariant-loop-p
+invariant-loop-p l = Put l.at (concat (map (row_of l.table.offsets.now l.table.entries.now) (take l.p l.list))) l.initial.vals l.vals l.to
