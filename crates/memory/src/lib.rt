@@ -11,8 +11,11 @@ pub fn scatter(memory: &mut [u32], places: &[u32], values: &[u32])
     requires { (u : ℕ) → u ∈ places.now → u < length memory.old }
     ensures { memory.new ≡ store_all places.now values.now memory.old }
 {
-    for (place, value) in places.iter().zip(values) {
-        memory[*place as usize] = *value;
+    let count = places.len().min(values.len());
+    // Stays: what may not change: each pair has its number, so that the wrong order is an edit of one line (`earlier_value_stays`); over a zip
+    // no edit could tell it from a right one.
+    for i in 0..count {
+        memory[places[i] as usize] = values[i];
     }
 }
 
