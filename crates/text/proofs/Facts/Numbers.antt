@@ -12,16 +12,23 @@ use Rattle.text.specs.Reading.{section_answer, ReadNumbers}
 use Rattle.std.specs.Prelude.{refl, []}
 use Rattle.std.proofs.Common.{◌∙◌}
 
+-- a section's answer where i numbers have been read
+abbrev pub answer_from : ℕ → Numbers → Result (ℕ × ℕ) Refusal
+answer_from i (all_read ns end) = Ok (i + length ns, end)
+answer_from i (fault ns why) = Err why
+
 -- what a read leaves, from i on
 pub record Left : Type 0 where
-  pub answer : Result ℕ Refusal
+  pub answer : Result (ℕ × ℕ) Refusal
   pub out : List ℕ
 
 abbrev pub finish : List ℕ → ℕ → Numbers → Left
-finish out i g = record { answer = end_of g; out = sets out i (kept g) }
+finish out i g = record { answer = answer_from i g; out = sets out i (kept g) }
 
 finish_ahead : (out : List ℕ) (i n : ℕ) (g : Numbers) → finish out i (ahead n g) ≡ finish (set out i n) (i + 1) g
-finish_ahead out i n (all_read ns end) = rw add-one
+finish_ahead out i n (all_read ns end) =
+    let q : i + suc (length ns) ≡ suc i + length ns = omega arith in
+    rw (add-one, q)
 finish_ahead out i n (fault ns why) = rw add-one
 
 -- the next number, where one stands
@@ -55,32 +62,39 @@ module _ (t : List ℕ) (count i p : ℕ) (out : List ℕ) where
     pub finish_bad : number_at t p ≡ Err BadText → finish out i (numbers_at (count - i) t p) ≡ record { answer = Err BadText; out = out }
     finish_bad q = finish_fault BadText (ap next_of q)
 
-  pub finish_end : i ≡ count → finish out i (numbers_at (count - i) t p) ≡ record { answer = Ok p; out = out }
+  pub finish_end : i ≡ count → finish out i (numbers_at (count - i) t p) ≡ record { answer = Ok (count, p); out = out }
   unfolding numbers_at
-  finish_end h = let q : count - i ≡ 0 = omega arith in rw q
+  finish_end h =
+      let q : count - i ≡ 0 = omega arith in
+      let z : i + 0 ≡ count = omega arith in
+      rw (q, z)
 
 -- where nothing was written through a reference that was lent
 pub same_again : (out : List ℕ) (i : ℕ) → i < length out → set out i (get_or out i 0) ≡ out
 same_again out i h = grind (arith, common_steps)
 
+-- the place alone, without the count
+abbrev pub place_of : Result (ℕ × ℕ) Refusal → Result ℕ Refusal
+place_of (Ok (n, end)) = Ok end
+place_of (Err why) = Err why
+
+place_zero : (g : Numbers) → place_of (answer_from 0 g) ≡ end_of g
+place_zero (all_read ns end) = refl
+place_zero (fault ns why) = refl
+
 -- what is left at the end is what the contract says
-pub read_end : (g : Numbers) (out out' : List ℕ) (r : Result ℕ Refusal) → finish out 0 g ≡ record { answer = r; out = out' } → r ≡ end_of g
-read_end g out out' r e = sym (ap (λ (x : Left). x.answer) e)
+pub read_end : (g : Numbers) (out out' : List ℕ) (r : Result (ℕ × ℕ) Refusal) → finish out 0 g ≡ record { answer = r; out = out' } → place_of r ≡ end_of g
+read_end g out out' r e = sym (ap (λ (x : Left). place_of x.answer) e) ∙ place_zero g
 
-pub read_stored : (g : Numbers) (out out' : List ℕ) (r : Result ℕ Refusal) → finish out 0 g ≡ record { answer = r; out = out' } → Stored g out out'
+pub read_stored : (g : Numbers) (out out' : List ℕ) (r : Result (ℕ × ℕ) Refusal) → finish out 0 g ≡ record { answer = r; out = out' } → Stored g out out'
 read_stored g out out' r e = sym (ap (λ (x : Left). x.out) e)
-
--- a section's answer where i numbers have been read
-abbrev pub answer_from : ℕ → Numbers → Result (ℕ × ℕ) Refusal
-answer_from i (all_read ns end) = Ok (i + length ns, end)
-answer_from i (fault ns why) = Err why
 
 answer_zero : (g : Numbers) → answer_from 0 g ≡ section_answer g
 answer_zero (all_read ns end) = let z : 0 + length ns ≡ length ns = omega arith in rw z
 answer_zero (fault ns why) = refl
 
-pub read_is : (g : Numbers) (out out' : List ℕ) (r : Result (ℕ × ℕ) Refusal) → answer_from 0 g ≡ r → sets out 0 (kept g) ≡ out' → ReadNumbers g out out' r
-read_is g out out' r e q = record { answer = sym e ∙ answer_zero g; stored = sym q }
+pub read_is : (g : Numbers) (out out' : List ℕ) (r : Result (ℕ × ℕ) Refusal) → finish out 0 g ≡ record { answer = r; out = out' } → ReadNumbers g out out' r
+read_is g out out' r e = record { answer = sym (ap (λ (x : Left). x.answer) e) ∙ answer_zero g; stored = read_stored g out out' r e }
 
 -- a fault at the count
 pub refused_is : (g : Numbers) (out : List ℕ) (why : Refusal) → g ≡ fault [] why → ReadNumbers g out out (Err why)
