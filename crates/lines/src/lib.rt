@@ -5,7 +5,7 @@ ghost use Rattle.std.specs.Prelude.{◌≡◌, ◌+◌, min, drop};
 ghost use Rattle.lines.specs.Line.{line_length};
 
 // The smaller of two numbers.
-// Stays: what may not change: it is public and the edit larger_taken stands on it, though no program here calls it any more.
+// Stays: what may not change: it is public, `run_texts` goes through it, and the edit larger_taken stands on it.
 pub fn least(a: usize, b: usize) -> usize
     ensures { result ≡ min a b }
 {

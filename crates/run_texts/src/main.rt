@@ -6,7 +6,7 @@
 
 ghost use Rattle.std.specs.Prelude.{◌≤◌, ◌<◌, length, IfOk};
 
-use lines::line_end;
+use lines::{least, line_end};
 use std::io;
 
 // One byte more than a text may have.
@@ -33,7 +33,7 @@ fn number(bytes: &[u8]) -> usize
 fn lengthen(bytes: &[u8], times: usize, room: &mut [u8]) -> usize
     ensures { result ≤ length room.new }
 {
-    let n = bytes.len().min(room.len());
+    let n = least(bytes.len(), room.len());
     room[..n].copy_from_slice(&bytes[..n]);
     let Some(last) = bytes.last() else {
         return n;
