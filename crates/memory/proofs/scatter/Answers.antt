@@ -1,4 +1,4 @@
-use Rattle.std.proofs.Common.{List, ◌≡◌, ℕ, ◌<◌, ◌≤◌, length, get_or, drop, min, sym, ◌∙◌, arith}
+use Rattle.std.proofs.Common.{List, ◌≡◌, ℕ, ◌≤◌, length, drop, min, sym, ◌∙◌, arith}
 use Rattle.rules.specs.Evaluation.{store_all}
 use Rattle.rules.proofs.Facts.Evaluating.{store_more, store_end, store_out}
 use Rattle.rules.proofs.Facts.Member.{get_or-∈}

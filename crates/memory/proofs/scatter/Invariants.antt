@@ -1,4 +1,4 @@
-use Rattle.std.proofs.Common.{◌≡◌, length, drop}
+use Rattle.std.proofs.Common.{◌≡◌, drop}
 use Rattle.rules.specs.Evaluation.{store_all}
 use Rattle.memory.proofs.scatter.Given as goal
 

@@ -1,4 +1,4 @@
-use Rattle.std.proofs.Common.{get_or, refl, arith, ◌+◌, ◌*◌, ◌≤◌, ◌<◌, ◌≡◌}
+use Rattle.std.proofs.Common.{get_or, refl, arith, ◌+◌, ◌*◌, ◌≤◌, ◌<◌}
 use Rattle.rules.specs.Lent.{drawing_of}
 use Rattle.rules.proofs.Facts.Running.{ran_runs, ran_next, ran_end, offsets_rise}
 use Rattle.rules.specs.Inner.Running.{Runs}

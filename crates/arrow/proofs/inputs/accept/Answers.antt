@@ -10,7 +10,7 @@ module _ (c : In_ok-check_arrow_inputs) where
   accepted : Accepted (drawing_of c.args.c.now) × Accepted (drawing_of c.args.d.now) × AcceptedMaps (maps_of c.args.f.now)
   accepted = inputs_accepted _ _ _ (fine_none c.check_arrow_inputs.result c.check_arrow_inputs.ensures c.in_ok-check_arrow_inputs.was)
 
--- Each is found among the three, so that a drawing in the other's place is refused where the promise says which is which.
+-- Each drawing's fact is found among both, so that one in the other's place is refused where the promise says which is which.
 pub invariant_of-result : goal.invariant_of-result
 invariant_of-result c =
     let a = accepted (goal.at.invariant_of-result c).In_ok-check_arrow_inputs in
